@@ -1,9 +1,9 @@
 -- What the amounts of a key come to.
-use Rattle.std.proofs.Common.{◌≡◌, ℕ, ◌+◌, ◌%◌, ◌^◌, ◌<◌, List, [], ◌∷◌, sum, refl, ap, sym, ◌∙◌, subst, arith}
+use Rattle.std.proofs.Common.{◌≡◌, ℕ, ◌+◌, ◌%◌, ◌^◌, ◌<◌, List, [], ◌∷◌, sum, ap, ◌∙◌, arith}
 use Rattle.std.proofs.Math.Nat.{mod-add-mod}
 use Rattle.std.proofs.lemmas.List.Sums.{sum_by-cons}
 use Rattle.squeue_streams.specs.Taking.{Takes}
-use Rattle.squeue_arrivals.specs.Arriving.{IsMadeOf, IsServed, items_for}
+use Rattle.squeue_arrivals.specs.Arriving.{IsServed, items_for}
 use Rattle.squeue_arrivals.specs.declared.served.ServedSource.{ServedSource}
 use Rattle.ring_groups.specs.Groups.{AllBecame}
 use Rattle.arriving_counters.specs.Counting.{HasCounted}

@@ -1,4 +1,4 @@
-//! Counters by key, for amounts that arrive: what a user of [`squeue_arrivals`] writes.
+//! Counters by key, for amounts that arrive: what a user of `squeue_arrivals` writes.
 //!
 //! An amount comes from a source, with its key, and is added to that key's total. Nobody knows before which keys come, nor how many
 //! amounts. It knows no pass and no squeue.

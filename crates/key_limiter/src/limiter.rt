@@ -37,10 +37,20 @@ pub struct Requests<'a> {
 }
 
 impl Level {
-    ghost use Rattle.key_limiter.specs.Limiting.{level_after, passes};
+    ghost use Rattle.key_limiter.specs.Limiting.{full, level_after, passes};
 
-    // Takes a token out, if there is one at this time.
-    fn take(&mut self, limit: Limit, time: u32) -> bool
+    /// A bucket is full before its first request.
+    pub fn full(limit: Limit) -> Level
+        ensures { result ≡ full limit }
+    {
+        Level {
+            filled: limit.most,
+            at: 0,
+        }
+    }
+
+    /// Takes a token out, if there is one at this time, in microseconds, and says whether there was.
+    pub fn take(&mut self, limit: Limit, time: u32) -> bool
         ensures passes { result ≡ passes limit self.old time }
         ensures after { self.new ≡ level_after limit self.old time }
     {
@@ -73,10 +83,7 @@ impl Parts for Requests<'_> {
 
     fn fresh(&self, alloc: Global, c: u32) -> Result<Bucket, AllocError> {
         let passed = Vec::with_capacity(alloc, self.rows[c as usize].len())?;
-        let level = Level {
-            filled: self.limit.most,
-            at: 0,
-        };
+        let level = Level::full(self.limit);
         Ok(Bucket { passed, level })
     }
 

@@ -1,5 +1,5 @@
 -- What is so of an answer that is known.
-use Rattle.std.proofs.Common.{◌≡◌, Option, None, Some, Result, Ok, Err, subst}
+use Rattle.std.proofs.Common.{◌≡◌, Option, Some, Result, Ok, Err, subst}
 use Rattle.std.specs.Prelude.{IfSome, MatchResult}
 
 pub of_some : {X : Type 0} (P : X → Type 0) (o : Option X) (x : X) → o ≡ Some x → IfSome o P → P x

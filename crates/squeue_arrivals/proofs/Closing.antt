@@ -1,7 +1,6 @@
 -- How the places of keys are closed, one after another, and what is at them then.
-use Rattle.std.proofs.Common.{◌≡◌, ◌≢◌, ℕ, zero, suc, ◌+◌, ◌*◌, ◌-◌, ◌<◌, ◌≤◌, inl, inr, None, Some, List, [], ◌∷◌, ◌++◌, length, map, slice_get, refl, ap, sym, ◌∙◌, subst, arith, length-append, Global}
-use Rattle.std.specs.Prelude.{All, Contains, nat_eq, slice_index_or}
-use Rattle.std.specs.List.{IsDistinct}
+use Rattle.std.proofs.Common.{◌≡◌, ◌≢◌, ℕ, ◌+◌, ◌<◌, ◌≤◌, inl, inr, Some, List, [], length, slice_get, ap, sym, ◌∙◌, subst, arith}
+use Rattle.std.specs.Prelude.{All}
 use Rattle.std.proofs.lemmas.Bool.{cases_eq}
 use Rattle.std.proofs.lemmas.Option.{get_or_from_slice_get, slice_get_within}
 use Rattle.turn_gate.specs.History.{Begins}
@@ -14,12 +13,11 @@ use Rattle.squeue_state.specs.Naming.{Named, setting_of}
 use Rattle.conn_migrate.specs.Moving.{Moved}
 use Rattle.squeue_streams.specs.declared.streams.Stream.{Stream}
 use Rattle.squeue_streams.specs.Taking.{Takes, items_of, state_of}
-use Rattle.stream_stays.specs.declared.place.Place.{Place}
 use Rattle.stream_stays.specs.declared.place.Place.TheVariants.{Open, Vacant as Vacant'}
 use Rattle.stream_stays.specs.declared.place.Stays.{Stays}
 use Rattle.stream_stays.specs.declared.stay.Stay.{Stay}
 use Rattle.stream_stays.specs.declared.stay.Vacant.{Vacant}
-use Rattle.stream_stays.specs.Places.{IsPlace, Knows, SameElsewhere, chain_of, place_at}
+use Rattle.stream_stays.specs.Places.{Knows, SameElsewhere, place_at}
 use Rattle.stream_stays.specs.Settling.{sent_in}
 use Rattle.stream_stays.specs.Staying.{pushed_of}
 use Rattle.squeue_arrivals.specs.Arriving.{IsMadeOf, items_for}

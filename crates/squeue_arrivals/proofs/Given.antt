@@ -1,5 +1,5 @@
 -- What a source gave, when an item came to its key, was refused, or none came any more.
-use Rattle.std.proofs.Common.{◌≡◌, ℕ, Bool, true, false, Option, None, Some, List, [], ◌∷◌, ◌++◌, length, refl, ap, sym, ◌∙◌, subst, append_assoc, append-nil}
+use Rattle.std.proofs.Common.{◌≡◌, ℕ, true, false, Option, None, Some, List, [], ◌∷◌, ◌++◌, length, ap, sym, ◌∙◌, subst, append_assoc, append-nil}
 use Rattle.std.specs.Prelude.{is_some}
 use Rattle.turn_gate.specs.declared.pass.Pass.{Pass}
 use Rattle.perimeter_core.specs.History.{Element, Limits}

@@ -6,6 +6,7 @@ pub mod KeysKept
 pub mod StaysKept
 pub mod Closing
 pub mod Given
+pub mod Runs
 pub mod Parts
 pub mod Whole
 pub mod Seated

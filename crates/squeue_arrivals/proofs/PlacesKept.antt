@@ -1,5 +1,5 @@
 -- What stays at places.
-use Rattle.std.proofs.Common.{◌≡◌, ◌≢◌, ℕ, ◌≤◌, Option, None, Some, Result, Ok, Err, List, [], ◌∷◌, ◌++◌, length, refl, ap, sym, ◌∙◌, subst, arith}
+use Rattle.std.proofs.Common.{◌≡◌, ℕ, ◌≤◌, Option, None, Some, Result, Ok, Err, List, [], ◌∷◌, ◌++◌, length, refl, ap, sym, ◌∙◌, subst, arith}
 use Rattle.std.specs.Prelude.{MatchResult, slice_get}
 use Rattle.stream_stays.specs.declared.place.Place.{Place}
 use Rattle.stream_stays.specs.declared.place.Place.TheVariants.{Open, Out, Vacant as Vacant'}
@@ -8,7 +8,7 @@ use Rattle.stream_stays.specs.declared.stay.Stay.{Stay}
 use Rattle.stream_stays.specs.declared.stay.Vacant.{Vacant}
 use Rattle.stream_stays.specs.Staying.{SameStay, before_of, pushed_of}
 use Rattle.squeue_arrivals.specs.Arriving.{most_of_key}
-use Rattle.stream_stays.specs.Places.{CanOpen, IsOpen, SameElsewhere, place_at, places_of}
+use Rattle.stream_stays.specs.Places.{IsOpen, SameElsewhere, place_at, places_of}
 use Rattle.stream_stays.specs.Settling.{SameAt, SamePlaces, sent_in}
 use Rattle.squeue_arrivals.specs.Keeping.{IsWhole, Keeps, KeepsBut}
 

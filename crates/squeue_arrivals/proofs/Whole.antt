@@ -1,5 +1,5 @@
 -- A source whose ring is done is served.
-use Rattle.std.proofs.Common.{◌≡◌, ℕ, ◌+◌, ◌*◌, Option, Some, List, length, map, slice_get, ap, sym, ◌∙◌, subst}
+use Rattle.std.proofs.Common.{◌≡◌, ℕ, ◌+◌, ◌*◌, Some, List, length, slice_get, ap, sym, ◌∙◌, subst, arith}
 use Rattle.std.specs.Prelude.{Contains, nat_eq, option_map}
 use Rattle.std.specs.List.{IsDistinct}
 use Rattle.std.proofs.lemmas.List.{length-map}
@@ -18,7 +18,7 @@ use Rattle.stream_stays.specs.Places.{place_at}
 use Rattle.squeue_arrivals.specs.Arriving.{HasGiven, IsMadeOf, IsServed, IsServedAt, IsServedIn, items_for, keys_of}
 use Rattle.squeue_arrivals.specs.Keyed.{AreBegun, Tells, work_of}
 use Rattle.squeue_arrivals.specs.Keeping.{AllCame, AreClosed, IsTable}
-use Rattle.squeue_arrivals.specs.Placed.{keys_in, place_of}
+use Rattle.squeue_arrivals.specs.Placed.{keys_in, most_in, place_of}
 use Rattle.squeue_arrivals.specs.Stayed.{HasStay}
 use Rattle.squeue_arrivals.specs.declared.ring_keys.RingKeys.{RingKeys}
 use Rattle.squeue_arrivals.specs.declared.served.KeyPart.{KeyPart}
@@ -32,12 +32,13 @@ module _ {R W T S A O : Type 0} (begins : W → S → Type 0) (step : W → S �
   abbrev pub is_served : (all : List (ℕ × T)) (p : Pass Element) (st : Stays T S) (k : RingKeys) (source : A) (left : ServedSource A T S) → AreBegun begins o → IsTable all k → AllCame all k
       → AreClosed (Tells step) limits s o all p st k → keys_of left.parts.items ≡ keys_in k
       → ((i : ℕ) (part : KeyPart S) → slice_get left.parts.items i ≡ Some part → (v : Vacant T S) × (place_at st (place_of k i) ≡ Some (Vacant' v)) × (part.state ≡ state_of v.part))
-      → HasGiven origin given is_over most (length (keys_in k)) all source left.source left.refused → IsServed begins step origin given is_over (work_of o) most source left
-  is_served all p st k source left begun table came closed keys states gave =
+      → HasGiven origin given is_over most (length (keys_in k)) all source left.source left.refused → most_in k ≡ most → IsServed begins step origin given is_over (work_of o) most source left
+  is_served all p st k source left begun table came closed keys states gave is_most =
       let many : length (keys_in k) ≡ length left.parts.items = sym (ap length keys) ∙ length-map left.parts.items (λ p. p.key) in
       record {
         all = all;
         its_items = subst (λ (n : ℕ). HasGiven origin given is_over most n all source left.source left.refused) many gave;
+        few = omega (arith, table.few, is_most, many);
         distinct = subst (IsDistinct nat_eq) (sym keys) table.distinct;
         each = λ i part at.
             let key : slice_get (keys_in k) i ≡ Some part.key = ap (λ (l : List ℕ). slice_get l i) (sym keys) ∙ (slice_get-map (λ p. p.key) left.parts.items i ∙ ap (λ x. option_map (λ p. p.key) x) at) in
@@ -52,11 +53,11 @@ module _ {R W T S A O : Type 0} (begins : W → S → Type 0) (step : W → S �
   pub is_served_at : (all : List (ℕ × T)) (p q : Pass Element) (st : Stays T S) (k : RingKeys) (source : A) (left : ServedSource A T S) → AreBegun begins o → IsTable all k → AllCame all k
       → AreClosed (Tells step) limits s o all p st k → keys_of left.parts.items ≡ keys_in k
       → ((i : ℕ) (part : KeyPart S) → slice_get left.parts.items i ≡ Some part → (v : Vacant T S) × (place_at st (place_of k i) ≡ Some (Vacant' v)) × (part.state ≡ state_of v.part))
-      → HasGiven origin given is_over most (length (keys_in k)) all source left.source left.refused → left.pass.value ≡ q → Begins (seen p) (seen q) → number q ≡ number p → k.number ≡ number p
+      → HasGiven origin given is_over most (length (keys_in k)) all source left.source left.refused → most_in k ≡ most → left.pass.value ≡ q → Begins (seen p) (seen q) → number q ≡ number p → k.number ≡ number p
       → k.rings ≡ s.given.rings → IsServedAt begins step origin given is_over (work_of o) most (setting_of limits s.given) source left
-  is_served_at all p q st k source left begun table came closed keys states gave last grows same number_is rings_are =
+  is_served_at all p q st k source left begun table came closed keys states gave is_most last grows same number_is rings_are =
       record {
-        served = is_served all p st k source left begun table came closed keys states gave;
+        served = is_served all p st k source left begun table came closed keys states gave is_most;
         stays = λ i part at.
             let key : slice_get (keys_in k) i ≡ Some part.key = ap (λ (l : List ℕ). slice_get l i) (sym keys) ∙ (slice_get-map (λ p. p.key) left.parts.items i ∙ ap (λ x. option_map (λ p. p.key) x) at) in
             let S = setting_of limits s.given in

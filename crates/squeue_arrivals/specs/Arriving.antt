@@ -55,11 +55,12 @@ module _ {T A O : Type 0} (origin : A → O) (given : A → List (ℕ × T)) (is
 
 module _ {W T S A O : Type 0} (begins : W → S → Type 0) (step : W → S → T → S → Type 0) (origin : A → O) (given : A → List (ℕ × T))
     (is_over : A → Type 0) (work : W) (most : ℕ) where
-  -- A source is served that gave these items: there is one part for each key among them, and no other. It is made of all items of its key,
-  -- in the order in which the source gave them
+  -- A source is served that gave these items: there is one part for each key among them, and no other, and there are no more than places.
+  -- Each is made of all items of its key, in the order in which the source gave them
   pub record IsServed (source : A) (left : ServedSource A T S) : Type 0 where
     pub all : List (ℕ × T)
     pub its_items : HasGiven origin given is_over most (length left.parts.items) all source left.source left.refused
+    pub few : length left.parts.items ≤ most
     pub distinct : IsDistinct nat_eq (keys_of left.parts.items)
     pub each : (i : ℕ) (part : KeyPart S) → slice_get left.parts.items i ≡ Some part
         → (items_for part.key all ≢ []) × IsMadeOf begins step work (items_for part.key all) part.state

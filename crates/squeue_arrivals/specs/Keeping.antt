@@ -1,5 +1,5 @@
 -- What stands at the places of a ring, and which key is at which of them.
-use Rattle.std.specs.Prelude.{◌≡◌, ◌≢◌, ℕ, ◌+◌, ◌*◌, ◌<◌, ◌≤◌, nat_eq, Option, None, Some, List, [], ◌∷◌, ◌++◌, Contains, length, slice_get}
+use Rattle.std.specs.Prelude.{◌≡◌, ◌≢◌, ℕ, ◌+◌, ◌<◌, ◌≤◌, nat_eq, Option, None, Some, List, [], ◌∷◌, ◌++◌, Contains, length, slice_get}
 use Rattle.std.specs.HashSet.{IsUnique, spare}
 use Rattle.turn_gate.specs.Passes.{number, seen}
 use Rattle.turn_gate.specs.declared.pass.Pass.{Pass}

@@ -1,5 +1,7 @@
 pub mod Front
 pub mod Told
+pub mod Giving
+pub mod Iterating
 pub mod Listing
 pub mod Keyed
 pub mod Pooling

@@ -12,6 +12,8 @@
 
 mod arriving;
 mod channelled;
+mod given_items;
+mod iterated;
 mod keys;
 mod line;
 mod piped;
@@ -26,6 +28,8 @@ mod steps;
 
 pub use arriving::serve_arriving;
 pub use channelled::Channelled;
+pub use given_items::GivenItems;
+pub use iterated::Iterated;
 pub use piped::Piped;
 pub use pool::ArrivalPool;
 pub use served::{Arrived, Cause, KeyPart, Refused, ServedSource};

@@ -89,7 +89,8 @@ where
             requires pool { IsInRange pool.now }
             requires job { IsReady (Tells X.step) sq.now pool.now.places job.now }
             requires begun { AreBegun X.begins (origin_of sq.now.given.first) }
-            ensures { Ran limits_of sq.entry.now (IsServedAt X.begins X.step A.origin A.given A.is_over (work_of (origin_of sq.entry.now.given.first)) pool.entry.now.places (setting_of limits_of sq.entry.now.given)) job.entry.now job.exit.now }
+            ensures { Ran limits_of sq.entry.now (IsServedAt X.begins X.step A.origin A.given A.is_over (work_of (origin_of sq.entry.now.given.first))
+                pool.entry.now.places (setting_of limits_of sq.entry.now.given)) job.entry.now job.exit.now }
         { run_job(rt, sq, alloc, pool, job) },
     );
 }

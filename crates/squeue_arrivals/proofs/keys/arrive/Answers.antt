@@ -8,7 +8,6 @@ use Rattle.squeue_arrivals.specs.Keyed.{Tells}
 use Rattle.squeue_arrivals.specs.Placed.{keys_in, place_of}
 use Rattle.squeue_arrivals.proofs.Cases.{of_err, of_ok, of_some}
 use Rattle.squeue_arrivals.proofs.KeysKept.{all_came_more, full_key, keys_more, keys_same}
-use Rattle.squeue_arrivals.proofs.keys.arrive.Given.{Over}
 use Rattle.squeue_arrivals.proofs.keys.arrive.Goals.{After-bring-pass}
 use Rattle.squeue_arrivals.proofs.keys.arrive.Goals as goal
 

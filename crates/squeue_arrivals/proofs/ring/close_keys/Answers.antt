@@ -1,4 +1,4 @@
-use Rattle.std.proofs.Common.{◌≡◌, ◌∙◌, ◌≤◌, ◌<◌, ℕ, length, sym, subst, arith}
+use Rattle.std.proofs.Common.{◌≡◌, ◌∙◌, ◌≤◌, ◌<◌, length, sym, subst, arith}
 use Rattle.histories.proofs.ListPlaces.{some_at}
 use Rattle.placed_parts.specs.Placing.{limits_of, origin_of}
 use Rattle.stream_stays.specs.Places.{IsOpen}

@@ -1,4 +1,4 @@
-use Rattle.std.proofs.Common.{◌≡◌, ◌∙◌, ◌++◌, ◌∷◌, [], ◌≤◌, ◌+◌, ◌*◌, ◌^◌, ℕ, true, false, length, length-append, refl, ap, sym, subst, arith, rules, append-nil, append_assoc}
+use Rattle.std.proofs.Common.{◌≡◌, ◌∙◌, ◌++◌, ◌∷◌, [], ◌≤◌, ℕ, true, false, length, length-append, refl, ap, sym, arith, rules, append-nil}
 use Rattle.std.specs.Prelude.{is_some}
 use Rattle.placed_parts.specs.Placing.{limits_of, origin_of}
 use Rattle.squeue_state.specs.declared.guarded.Life.{Life}

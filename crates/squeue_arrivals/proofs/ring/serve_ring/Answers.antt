@@ -1,10 +1,9 @@
-use Rattle.std.proofs.Common.{◌≡◌, ◌∙◌, ◌+◌, ℕ, Some, length, slice_get, ap, sym, subst, arith}
+use Rattle.std.proofs.Common.{◌≡◌, ◌∙◌, ℕ, length, slice_get, ap, sym, subst, arith}
 use Rattle.histories.proofs.ListPlaces.{some_at}
 use Rattle.turn_gate.specs.History.{Begins}
 use Rattle.turn_gate.specs.Passes.{seen}
 use Rattle.turn_gate.proofs.Histories.{begins_more}
 use Rattle.placed_parts.specs.Placing.{limits_of, origin_of}
-use Rattle.stream_stays.specs.declared.place.Place.TheVariants.{Vacant as Vacant'}
 use Rattle.squeue_arrivals.specs.Arriving.{HasGiven}
 use Rattle.squeue_arrivals.specs.Keeping.{AreClosed}
 use Rattle.squeue_arrivals.specs.Keyed.{Tells}
@@ -66,5 +65,5 @@ returns-clause-served g c =
     let number_is = c.serve_all-pass.ensures.ring.number ∙ (c.requires.may.its_number ∙ sym (c.close_keys-pass.ensures.number ∙ c.serve_all-pass.ensures.number)) in
     is_served_at g.X.KeySteps.begins g.X.KeySteps.step g.A.Arrivals.origin g.A.Arrivals.given g.A.Arrivals.is_over limits_of c.args.sq.now (origin_of c.args.sq.now.given.first) c.args.pool.now.places given.0 c.close_keys-pass.result
     c.close_pass-pass.result c.close_keys-pass.new.stays keys c.args.ring.source _ c.requires.begun given.1.0.table given.1.1 (closed g at) c.take_parts-parts.ensures.keys
-    (λ i part got. let h = c.take_parts-parts.ensures.states i part got in (h.0, ap (λ l. slice_get l (place_of keys i)) (sym c.into_places.ensures) ∙ h.1, h.2)) gave c.of-last.ensures grows a.same_number number_is
+    (λ i part got. let h = c.take_parts-parts.ensures.states i part got in (h.0, ap (λ l. slice_get l (place_of keys i)) (sym c.into_places.ensures) ∙ h.1, h.2)) gave most c.of-last.ensures grows a.same_number number_is
     (c.serve_all-pass.ensures.ring.rings ∙ c.requires.may.its_rings)

@@ -1,4 +1,4 @@
-use Rattle.std.proofs.Common.{◌≡◌, ◌≢◌, ◌∙◌, ◌≤◌, ◌<◌, ◌+◌, ℕ, Some, List, [], ◌∷◌, refl, length, length-append, slice_get, ap, sym, subst, arith}
+use Rattle.std.proofs.Common.{◌≡◌, ◌≢◌, ◌∙◌, ◌≤◌, ◌<◌, ℕ, Some, [], ◌∷◌, refl, length, length-append, slice_get, ap, sym, subst, arith}
 use Rattle.std.proofs.lemmas.List.{take_all}
 use Rattle.stream_stays.specs.declared.place.Place.TheVariants.{Vacant as Vacant'}
 use Rattle.stream_stays.specs.declared.stay.Vacant.{Vacant}

@@ -1,4 +1,4 @@
-use Rattle.std.proofs.Common.{◌≡◌, ◌≤◌, ◌<◌, ℕ, Some, length, slice_get, take, vec_capacity}
+use Rattle.std.proofs.Common.{◌≡◌, ◌≤◌, ℕ, Some, length, slice_get, take, vec_capacity}
 use Rattle.stream_stays.specs.declared.place.Place.TheVariants.{Vacant as Vacant'}
 use Rattle.stream_stays.specs.declared.stay.Vacant.{Vacant}
 use Rattle.squeue_streams.specs.Taking.{state_of}

@@ -1,4 +1,4 @@
-use Rattle.std.proofs.Common.{◌≡◌, ◌∙◌, ◌+◌, ◌*◌, ◌≤◌, ℕ, length, replicate, sym, ap, subst, arith, length-append, ◌∷◌, [], map}
+use Rattle.std.proofs.Common.{◌≡◌, ◌∙◌, ◌+◌, ◌*◌, ℕ, length, replicate, sym, ap, subst, arith, length-append, ◌∷◌, [], map}
 use Rattle.std.proofs.lemmas.List.{length-map}
 use Rattle.placed_parts.specs.Placing.{limits_of, origin_of}
 use Rattle.squeue_serve.specs.Lending.{tasks_in}

@@ -1,4 +1,4 @@
-use Rattle.std.proofs.Common.{◌≡◌, ℕ, ◌<◌, Option, None, Some, length, slice_get, sym, ◌∙◌}
+use Rattle.std.proofs.Common.{◌≡◌, ℕ, ◌<◌, Option, None, Some, length, slice_get, sym}
 use Rattle.std.specs.Prelude.{IfSome, nat_eq, position}
 use Rattle.squeue_arrivals.specs.Placed.{keys_in}
 use Rattle.squeue_arrivals.proofs.KeyLists.{found_at}

@@ -1,4 +1,3 @@
-use Rattle.std.proofs.Common.{◌++◌, ◌∷◌, [], ◌∙◌, ap}
 use Rattle.squeue_arrivals.proofs.Fronts.{one_given, rest_kept}
 use Rattle.squeue_arrivals.proofs.source.ListedArrivals.next.Goals as goal
 

@@ -1,0 +1,9 @@
+pub mod Getting
+pub mod Keeping
+pub mod Stepping
+pub mod Popping
+pub mod Rings
+pub mod Parting
+pub mod Asking
+pub mod Answering
+pub mod Serving

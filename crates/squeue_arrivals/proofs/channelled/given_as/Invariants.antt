@@ -1,4 +1,0 @@
-use Rattle.squeue_arrivals.proofs.channelled.given_as.Given as goal
-
-abbrev pub ghost-pick : goal.ghost-pick
-ghost-pick g a = g.picked
