@@ -10,14 +10,16 @@ HOST = "10.9.0.2"
 BLOCK = random.Random(1).randbytes(1 << 20)
 
 
-def connect(port=7, timeout=30, **options):
-    """A connected socket. Congestion control is cubic, which a namespace may not have as its default."""
+def connect(port=7, timeout=30, port_here=0, **options):
+    """A connected socket, from this port where one is told. Congestion control is cubic, which a namespace may not have as its default."""
     client = socket.socket()
     client.setsockopt(socket.IPPROTO_TCP, socket.TCP_CONGESTION, b"cubic")
     for name, value in options.items():
         level = socket.IPPROTO_TCP if name.startswith("TCP") else socket.SOL_SOCKET
         client.setsockopt(level, getattr(socket, name), value)
     client.settimeout(timeout)
+    if port_here:
+        client.bind(("10.9.0.1", port_here))
     client.connect((HOST, port))
     return client
 

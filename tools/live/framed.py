@@ -1,4 +1,5 @@
 """The live servers over frames, where the test gives the time: each step is deterministic, and needs neither root nor a device."""
+import os
 import socket
 import threading
 
@@ -21,6 +22,22 @@ class Alone:
         return server.ends[0]
 
     def ended(self):
+        return self.process.wait(60)
+
+
+class First:
+    """The first of several rings, whose others get nothing."""
+    def __init__(self, program, rings, **layout):
+        self.words = program, rings, layout
+
+    def start(self, **setting):
+        server = Frames(*self.words, **setting)
+        self.process, first, self.others = server.process, server.ends[0], server.ends[1:]
+        return first
+
+    def ended(self):
+        for end in (end for ends in self.others for end in ends):
+            os.close(end)
         return self.process.wait(60)
 
 

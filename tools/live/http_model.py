@@ -4,6 +4,7 @@
 open is as docs/WEB.md tells it.
 """
 import re
+import urllib.parse
 from dataclasses import dataclass, field
 
 MOST_HEAD = 8192
@@ -11,6 +12,7 @@ TOKEN = rb"[!#$%&'*+.^_`|~0-9A-Za-z-]+"
 REQUEST_LINE = re.compile(rb"(" + TOKEN + rb") ([!-~\x80-\xff]+) HTTP/(\d)\.(\d)")
 FIELD_LINE = re.compile(rb"(" + TOKEN + rb"):([\t -~\x80-\xff]*)")
 HOST = re.compile(rb"[A-Za-z0-9._~%!$&'()*+,;=:\[\]-]*")
+ONE_RANGE = re.compile(rb"(?i:bytes)=([0-9]*)-([0-9]*)")
 OTHER_METHODS = {b"POST", b"PUT", b"DELETE", b"CONNECT", b"OPTIONS", b"TRACE", b"PATCH"}
 
 
@@ -82,14 +84,15 @@ class Request:
 
     def read_framing(self):
         """RFC 9112, 6.1 to 6.3."""
-        lengths, codings = elements(self.of(b"content-length")), lower(self.of(b"transfer-encoding"))
-        self.content = bool(codings)
-        if self.of(b"transfer-encoding") and (self.old or self.of(b"content-length")):
+        # a list in a Content-Length field may be refused (RFC 9110, 8.6): here it is, and so is a list of codings that ends in a comma
+        lengths, codings = self.of(b"content-length"), lower(self.of(b"transfer-encoding"))
+        self.content, cut = bool(codings), [part.strip(b" \t") for value in self.of(b"transfer-encoding") for part in value.split(b",")]
+        if cut and (self.old or lengths or not cut[-1]):
             self.fault = 400
         elif codings and codings != [b"chunked"]:
             self.fault = 400 if codings.count(b"chunked") > 1 or b"chunked" in codings[:-1] or codings[-1] != b"chunked" else 501
-        elif self.of(b"content-length"):
-            if len(set(lengths)) != 1 or not re.fullmatch(rb"\d+", lengths[0]):
+        elif lengths:
+            if not all(re.fullmatch(rb"\d+", length) for length in lengths) or len(set(map(int, lengths))) != 1:
                 self.fault = 400
             else:
                 self.content = int(lengths[0]) > 0
@@ -113,22 +116,54 @@ def tags_match(values, tag, weak):
     return any(given in (b"*", tag) or weak and given == b"W/" + tag for given in elements(values))
 
 
+def part_of(request, page):
+    """The part of a page that GET wants, as its first place and the one behind its last: None where all is sent, "none" where no byte of
+    it is there (RFC 9110, 13.1.5, 14.1.1, 14.1.2 and 14.2)."""
+    size, ranges, if_range = len(page.body), request.of(b"range"), request.of(b"if-range")
+    found = ONE_RANGE.fullmatch(ranges[0]) if len(ranges) == 1 else None
+    # a server may ignore any Range field: it does with several ranges, with other units, and with what is no range
+    if request.method != b"GET" or not found or found[0].endswith(b"=-") or if_range and if_range != [page.tag]:
+        return None
+    first, last = found.groups()
+    if not first:
+        count = int(last)
+        # an empty page has no part to tell of, so it is sent whole
+        return "none" if count == 0 else None if size == 0 else (max(size - count, 0), size)
+    if int(first) >= size:
+        return "none"
+    if last and int(last) < int(first):
+        return None
+    return int(first), min(int(last) + 1, size) if last else size
+
+
 def of_page(pages, request, path, answer):
     page = pages[path]
     if request.of(b"if-match") and not tags_match(request.of(b"if-match"), page.tag, False):
         answer.status = 412
     elif tags_match(request.of(b"if-none-match"), page.tag, True):
         answer.status, answer.fields = 304, {b"etag": page.tag}
+    elif (part := part_of(request, page)) == "none":
+        answer.status, answer.fields = 416, {b"content-range": b"bytes */%d" % len(page.body)}
+    elif part:
+        answer.status, answer.body = 206, page.body[slice(*part)]
+        answer.fields = {
+            b"etag": page.tag, b"content-type": page.kind, b"content-length": b"%d" % len(answer.body),
+            b"content-range": b"bytes %d-%d/%d" % (part[0], part[1] - 1, len(page.body))}
     else:
         answer.status, answer.body = 200, page.body
         answer.fields = {b"etag": page.tag, b"content-type": page.kind, b"content-length": b"%d" % len(page.body)}
     return answer
 
 
+def last(status):
+    """An answer behind which the connection ends, and that says so (RFC 9112, 9.6)."""
+    return Answer(status, fields={b"connection": b"close"})
+
+
 def answer_of(pages, lines):
     request = Request(lines)
     if request.fault:
-        return Answer(request.fault)
+        return last(request.fault)
     answer = Answer(0, keeps=request.keeps())
     if request.method not in (b"GET", b"HEAD"):
         answer.status = 405 if request.method in OTHER_METHODS else 501
@@ -136,13 +171,15 @@ def answer_of(pages, lines):
     elif request.content:
         answer.status = 413
     elif (path := request.path()) is None:
-        return Answer(400)
+        return last(400)
     elif (plain := without_escapes(path)) in pages:
         answer = of_page(pages, request, plain, answer)
     elif plain + b"/" in pages:
-        answer.status, answer.fields = 301, {b"location": plain + b"/"}
+        answer.status, answer.fields = 301, {b"location": urllib.parse.quote(plain + b"/", safe="/-._~!$&'()*+,;=:@").encode()}
     else:
         answer.status = 404
+    if not answer.keeps or request.old:
+        answer.fields[b"connection"] = b"keep-alive" if answer.keeps else b"close"
     return answer
 
 
@@ -163,12 +200,12 @@ def answers(pages, received):
         at = re.match(rb"(\r?\n)*", received[:MOST_HEAD]).end()
         first = received[at:at + 1]
         if first and first != b"\r" and not re.fullmatch(TOKEN, first):
-            return [*given, Answer(400)], True
+            return [*given, last(400)], True
         head = head_of(received)
         if head is None:
             if len(received) < MOST_HEAD:
                 break
-            return [*given, Answer(431 if b"\n" in received[at:MOST_HEAD] else 414)], True
+            return [*given, last(431 if b"\n" in received[at:MOST_HEAD] else 414)], True
         end, lines = head
         given.append(answer_of(pages, lines))
         # whoever asks by HEAD takes no content (RFC 9110, 9.3.2), also where the rest of the line is none

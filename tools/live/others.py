@@ -27,6 +27,14 @@ def need(program, package):
         raise Missing(package)
 
 
+def need_one(*packages):
+    """The program of the first of these Debian packages that is there, each of which has its package's name."""
+    for name in packages:
+        if found := shutil.which(name):
+            return found
+    raise Missing(packages[0])
+
+
 class Lwip:
     """lwIP's TCP on a TUN device of its own, as a context. This namespace's kernel forwards between that device and the wire."""
     def __enter__(self):

@@ -8,6 +8,8 @@ from pathlib import Path
 TOP = Path(__file__).resolve().parents[2]
 # The user and the group "nobody" of Debian.
 NOBODY = 65534
+# What a server has without a word for it: its services and their ports, and how many echo requests it answers from tick to tick.
+USUAL_PORTS, PINGS = {"echo": 7, "discard": 9}, 1000
 PR_SET_PDEATHSIG, PR_SET_NO_NEW_PRIVS, PR_CAP_AMBIENT, PR_CAP_AMBIENT_CLEAR_ALL = 1, 38, 47, 4
 
 
@@ -17,11 +19,14 @@ def built(name):
     return str(unproved if unproved.exists() and not proved.exists() else proved)
 
 
-def setting(server, broadcast, places=1024, idle=7200, memory=256 << 20, mtu=1500, ports=None):
+def setting(server, broadcast, places=1024, idle=7200, memory=256 << 20, mtu=1500, ports=None, pings=PINGS):
     """The words that say what a server is started with. Both headers of a segment take 40 bytes. `ports` has the port of each service by
-    its name; without it there are echo at 7 and discard at 9, and no word says so."""
+    its name; without it there are echo at 7 and discard at 9. No word says what is usual, unless another one stands behind it."""
     words = [server.packed.hex(), broadcast.packed.hex(), str(places), str(idle), str(memory), str(mtu - 40)]
-    return words if ports is None else [*words, ",".join(f"{name}={port}" for name, port in ports.items())]
+    if ports is None and pings == PINGS:
+        return words
+    words.append(",".join(f"{name}={port}" for name, port in (ports or USUAL_PORTS).items()))
+    return words if pings == PINGS else [*words, str(pings)]
 
 
 def rings_words(rings, squeues=None, mode="process", budget=64):

@@ -4,8 +4,9 @@
 
    For each queue, one thread takes datagrams from TUN and writes them to the pipe IN as frames, and one takes frames from the pipe OUT and
    writes their datagrams to TUN. A frame is a length and a time in eight bytes each, big-endian, and so many bytes; the time is in
-   microseconds since 1970: the system's at the start, and from there on by a clock that nobody sets. Every 20 ms IN gets a frame
-   without bytes, the time alone.
+   microseconds since 1970: the system's at the start, and from there on by a clock that nobody sets. After a pause of the machine it goes on
+   twice as fast, until it has caught up: so deadlines of the pause don't all fire at once. Every 20 ms IN gets a frame without bytes, the time
+   alone; not before the last one was taken, so that a server that is late isn't made later by many at once.
 
    The thread that reads OUT waits for nothing else, so a server that writes is never held up for long. A full IN is waited for, and
    meanwhile the device keeps datagrams, and loses what is too many for its queue.
@@ -33,11 +34,12 @@
 #include <stdio.h>
 #include <stdlib.h>
 #include <string.h>
+#include <sys/ioctl.h>
 #include <sys/mman.h>
 #include <time.h>
 #include <unistd.h>
 
-enum { HEAD = 16, LONGEST = 65535, GATHERED = 1 << 16, TICK = 20000 };
+enum { HEAD = 16, LONGEST = 65535, GATHERED = 1 << 16, TICK = 20000, MOST_STEP = 100000 };
 enum { TCP_PROTOCOL = 6, PROTOCOL = 9 };
 enum { IP_LENGTH = 2, IP_SUM = 10, ENDS = 12, TCP = 20, SEQ = 24, ACK = 28, FLAGS = 33, WINDOW = 34, TCP_SUM = 36, TEXT = 40, PSH_FLAG = 8, ACK_FLAG = 16 };
 
@@ -52,6 +54,9 @@ static atomic_bool ending;
 static size_t device_head;
 /* How far the system's time was before the clock that nobody sets, at the start. */
 static uint64_t begun;
+/* The time that was told last, and the system's then. */
+static uint64_t told, looked;
+static pthread_mutex_t telling = PTHREAD_MUTEX_INITIALIZER;
 /* What was brought and taken, in the order of its times: a descriptor, or -1 where it isn't kept; where its last whole record ends; and whether
    the next one couldn't be written. */
 static int capture;
@@ -65,8 +70,21 @@ static uint64_t micros(clockid_t clock) {
     return t.tv_sec * 1000000ull + t.tv_nsec / 1000;
 }
 
+/* The time that is told at a look at the clock, behind what was told at the last one: the clock's, but no more than twice what has passed, of which
+   a tenth of a second counts at most. */
+static uint64_t told_after(uint64_t told, uint64_t looked, uint64_t now) {
+    uint64_t passed = now - looked < MOST_STEP ? now - looked : MOST_STEP;
+    return told + 2 * passed < now ? told + 2 * passed : now;
+}
+
 static uint64_t now(void) {
-    return begun + micros(CLOCK_MONOTONIC);
+    pthread_mutex_lock(&telling);
+    uint64_t time = begun + micros(CLOCK_MONOTONIC);
+    told = told_after(told, looked, time);
+    looked = time;
+    time = told;
+    pthread_mutex_unlock(&telling);
+    return time;
 }
 
 static void put_number(unsigned char *to, uint64_t number) {
@@ -175,19 +193,25 @@ static ssize_t take_datagrams(struct queue *q, unsigned char *frames, size_t use
     return over ? -1 : (ssize_t)used;
 }
 
+/* Whether of what was written to a pipe all is taken but for the last so many bytes. */
+static int is_taken(int pipe, uint64_t behind) {
+    int left;
+    return ioctl(pipe, FIONREAD, &left) || (uint64_t)left <= behind;
+}
+
 static void *take(void *of) {
     struct queue *q = of;
     unsigned char *frames = malloc(HEAD + GATHERED + HEAD + LONGEST);
-    uint64_t next = 0;
+    uint64_t next = 0, behind = 0;          /* the time of the next frame without bytes, and how much was written behind the last one */
     while (frames && !ending) {
         uint64_t at = now();
         size_t used = 0;
-        if (at >= next) {
+        if (at >= next && is_taken(q->in, behind)) {
             used = put_head(frames, 0, at);
             next = at + TICK;
         } else {
             struct pollfd waits = { q->tun, POLLIN, 0 };
-            poll(&waits, 1, (next - at) / 1000 + 1);
+            poll(&waits, 1, at < next ? (next - at) / 1000 + 1 : 1);
         }
         ssize_t length = take_datagrams(q, frames, used);
         if (length < 0) {
@@ -195,6 +219,7 @@ static void *take(void *of) {
             break;
         }
         if (length && !write_whole(q->in, frames, length)) break;
+        behind = used ? length - used : behind + length;
     }
     close(q->in);
     return 0;
@@ -318,6 +343,7 @@ int main(int words, char **word) {
         return 1;
     }
     begun = micros(CLOCK_REALTIME) - micros(CLOCK_MONOTONIC);
+    told = looked = begun + micros(CLOCK_MONOTONIC);
     capture = atoi(word[3]);
     captured = lseek(capture, 0, SEEK_CUR);
     signal(SIGPIPE, SIG_IGN);

@@ -79,6 +79,34 @@ def idle(program):
         assert len(server.step(datagram(45000, 7, 1, 0, SYN))) == 1, "nobody left"
 
 
+def one_address(program):
+    """A table for twelve, nine of whose places one address has, and three another one. Whoever comes from elsewhere gets one at the next tick: of the nine
+    the one that was silent the longest leaves, one a tick, until these are as many as the three."""
+    with Framed(program, places=12) as server:
+        clients = [Client(server, port=41000 + i) for i in range(9)] + [Client(server, port=41000 + i, source="192.0.2.1") for i in range(3)]
+        for client in reversed(clients):
+            assert client.send(b"x", after=1)[-1].text == b"x"
+            client.ack += 1
+            server.step(client.segment(client.seq, client.ack, ACK))
+        silent = list(reversed(clients[:9]))
+        for i in range(6):
+            source = f"192.0.2.{2 + i}"
+            for newcomer in (source, "192.0.2.100"):
+                assert server.step(datagram(45000, 7, 1, 0, SYN, source=newcomer)) == [], "a full table took a connection"
+            assert server.step(datagram(45000, 7, 1, 0, SYN)) == [], "a full table took one of the many"
+            server.step(after=SECOND // 50)
+            left = silent.pop(0)
+            Client(server, port=45000, source=source)
+            assert server.step(datagram(45000, 7, 1, 0, SYN, source="192.0.2.100")) == [], "two left at a tick"
+            assert [s.flags for s in server.step(left.segment(left.seq, left.ack, ACK, text=b"y"))] == [RST], "another one left"
+        # three and three of twelve are no more than a quarter
+        for _ in range(3):
+            assert server.step(datagram(45000, 7, 1, 0, SYN, source="192.0.2.100"), after=SECOND // 50) == []
+            server.step(after=SECOND // 50)
+        for client in silent + clients[9:]:
+            assert client.send(b"z")[-1].text == b"z"
+
+
 def vanished(program):
     """As many clients as a table has places, and none is ever heard of again: thirty days later the next one is served."""
     with Framed(program, places=1024) as server:
@@ -159,18 +187,31 @@ def time_wait(program):
 
 
 def memory(program):
-    """All connections hold at most so many bytes: text beyond is passed over with its FIN, and what is acknowledged makes room again."""
+    """All connections hold at most so many bytes: text beyond is passed over with its FIN. At a tick where three quarters are held what stands behind
+    gaps is forgotten, and nothing else."""
     with Framed(program, memory=3000) as server:
         holder, other = Client(server), Client(server, port=40001)
-        # behind a hole, so it is held: two of 1,000 bytes, and of the third nothing
+
+        def is_passed_over(text):
+            sent = other.send(text)
+            other.seq -= len(text)
+            return sent == []
+
         for i in (1, 2, 3):
             server.step(holder.segment(holder.seq + 1000 * i, holder.ack, ACK, text=bytes(1000)))
-        assert len(server.step(b"")) == 0
-        assert [s.text for s in other.send(b"x")] == []
-        other.seq -= 1
-        sent = server.step(holder.segment(holder.seq, 0, RST), b"")
-        assert sent == []
-        assert [s.text for s in other.send(b"x")] == [b"x"], "no room behind a reset"
+        assert is_passed_over(b"x")
+        assert server.step(b"") == []
+        assert [s.text for s in other.send(b"x")] == [b"x"], "no room behind a tick"
+        other.ack += 1
+        assert server.step(other.segment(other.seq, other.ack, ACK), b"") == []
+        # the first of these filled the gap, if anything were held behind it
+        for _ in range(3):
+            assert [(s.ack, s.text) for s in holder.send(bytes(1000))] == [(holder.seq, bytes(1000))]
+        assert is_passed_over(b"y")
+        assert server.step(b"") == []
+        assert is_passed_over(b"y")
+        assert server.step(holder.segment(holder.seq, 0, RST), b"") == []
+        assert [s.text for s in other.send(b"y")] == [b"y"], "no room behind a reset"
         other.ack += 1
         assert server.step(other.segment(other.seq, other.ack, ACK)) == []
 
@@ -230,6 +271,17 @@ def echo_requests(program):
         client.close()
 
 
+def pings(program):
+    """As many echo requests are answered from tick to tick as the word says: 3 of 5, and behind a tick 3 again."""
+    us, them = socket.inet_aton(SERVER), socket.inet_aton(CLIENT)
+    asked, wanted = tcp_segments.echo(them, us, 8, b"\0\1\0\1text"), tcp_segments.echo(us, them, 0, b"\0\1\0\1text")
+    with Framed(program, pings=3) as server:
+        for _ in range(2):
+            assert server.raw(*[asked] * 5) == [wanted] * 3
+            server.step(after=SECOND)
+        Client(server).close()
+
+
 def path_mtu(program):
     """Where the paths take 1,300 bytes nothing longer is announced or sent (RFC 9293, 3.7.1), also to a client that takes more, and also where it comes again."""
     with Framed(program, mtu=1300) as server:
@@ -242,4 +294,4 @@ def path_mtu(program):
 
 
 RULES = {function.__name__.replace("_", "-"): function
-         for function in (addresses, challenges, blind, fresh, idle, vanished, half_open, own_age, silent, time_wait, memory, zero_window, echo_requests, path_mtu, ports)}
+         for function in (addresses, challenges, blind, fresh, idle, one_address, vanished, half_open, own_age, silent, time_wait, memory, zero_window, echo_requests, pings, path_mtu, ports)}

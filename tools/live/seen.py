@@ -30,12 +30,27 @@ def opens_or_ends(server):
             (0x06, 0, 0, 80), (0x06, 0, 0, 0))
 
 
+# Takes nothing.
+NOTHING = ((0x06, 0, 0, 0),)
+
+
+def comes_to(server):
+    """Takes the head of each TCP datagram over IPv4 that comes to the server."""
+    return ((0x30, 0, 0, 0), (0x54, 0, 0, 0xF0), (0x15, 0, 5, 0x40), (0x30, 0, 0, 9), (0x15, 0, 3, 6), (0x20, 0, 0, 16), (0x15, 0, 1, int(server)),
+            (0x06, 0, 0, 80), (0x06, 0, 0, 0))
+
+
+def attach(taps, only, level=socket.SOL_SOCKET, option=SO_ATTACH_FILTER):
+    """A tap gets what this filter takes, from now on; what it got before is still there."""
+    filtered = ctypes.create_string_buffer(b"".join(struct.pack("HBBI", *step) for step in only))
+    taps.setsockopt(level, option, struct.pack("HP", len(only), ctypes.addressof(filtered)))
+
+
 def tap(name, only=()):
     """A socket that gets what passes through a device, or what the filter takes of it."""
     taps = socket.socket(socket.AF_PACKET, socket.SOCK_DGRAM, 0)
     if only:
-        filtered = ctypes.create_string_buffer(b"".join(struct.pack("HBBI", *step) for step in only))
-        taps.setsockopt(socket.SOL_SOCKET, SO_ATTACH_FILTER, struct.pack("HP", len(only), ctypes.addressof(filtered)))
+        attach(taps, only)
     taps.setsockopt(socket.SOL_SOCKET, SO_RCVBUFFORCE, ROOM)
     taps.bind((name, ETH_P_ALL))
     return taps
@@ -70,6 +85,11 @@ class Lossy:
     def count(self):
         self.lost += struct.unpack("II", self.taps.getsockopt(SOL_PACKET, PACKET_STATISTICS, 8))[1]
         return self.lost
+
+    def catch_up(self, until):
+        """Waits until all that passed is used, at most up to this moment."""
+        while select.select([self.taps], [], [], 0)[0] and time.monotonic() < until:
+            time.sleep(0.001)
 
     def finish(self):
         """Waits for what is left, where the device is gone. What was lost."""
@@ -128,12 +148,13 @@ class Capture:
 
 @dataclass
 class Connection:
-    """What was seen of one: the number that it began with, the one behind the server's SYN, whether the handshake is over, and whose FIN
-    came (1 the client's, 2 the server's)."""
+    """What was seen of one: the number that it began with, the one behind the server's SYN, whether the handshake is over, whose FIN came
+    (1 the client's, 2 the server's), and the number that the client acknowledged last."""
     began: int
     answer: int | None = None
     opened: bool = False
     fins: int = 0
+    acked: int | None = None
 
     def shows_opened(self, inward, flags, ack):
         """Whether this segment shows that the handshake is over: it acknowledges the server's SYN, or is the server's FIN."""
@@ -181,6 +202,8 @@ class Connections:
             found.opened = True
             self.opened += 1
             self.open += 1
+        if inward and flags & ACK:
+            found.acked = ack
         if flags & FIN:
             found.fins |= 1 if inward else 2
             if found.fins == 3:
@@ -205,6 +228,11 @@ class Connections:
         else:
             self.refused += 1
         self.over(ends)
+
+    def still_open(self, most):
+        """Both ends and what was seen of each open connection whose client acknowledged something; of more than so many the youngest."""
+        found = [(ends, its) for ends, its in self.known.copy().items() if its.opened and its.acked is not None]
+        return found[:-most - 1:-1]
 
     def facts(self):
         return {name: getattr(self, name) for name in ("asked", "opened", "open", "refused", "resets_in", "resets_out")}

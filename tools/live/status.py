@@ -98,5 +98,6 @@ def line_of_second(before, now):
     a_second = {fact: (float(now[fact]) - float(before[fact])) / seconds for fact in now if fact in before}
     cpu = sum(a_second[fact] for fact in ("cpu_seconds", "mover_cpu_seconds") if fact in a_second)
     ways = [f"{way} {a_second[f'datagrams_{way}']:8.0f}/s {a_second[f'bytes_{way}'] * 8e-6:8.1f} Mbit/s" for way in ("in", "out")]
-    return (f"{time.strftime('%H:%M:%S')}  {'   '.join(ways)}   open {now['open']} (+{a_second['opened']:.0f}/s)   lost {a_second['lost_in']:.0f}/s"
+    answers = f"   answers {a_second['answers']:.0f}/s" if "answers" in a_second else ""
+    return (f"{time.strftime('%H:%M:%S')}  {'   '.join(ways)}   open {now['open']} (+{a_second['opened']:.0f}/s){answers}   lost {a_second['lost_in']:.0f}/s"
             f"   processor {100 * cpu:.0f} %   {now['most_memory_kb']} kB")

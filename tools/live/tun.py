@@ -10,6 +10,8 @@ TUN_WITHOUT_HEADER, MULTI_QUEUE, LONG_SEGMENTS, NEW_ALONE = 0x0001 | 0x1000, 0x0
 # What a device with long segments takes: segments over IPv4 that aren't cut, without their checksums.
 TUNSETOFFLOAD, NOT_CUT = 0x400454D0, 0x1 | 0x2
 UP_AND_RUNNING = 0x1 | 0x40
+# The bytes of a virtio_net_hdr, which stands before each datagram of such a device: zeros say nothing.
+HEAD = 10
 # So many datagrams wait for the program in each queue: more are lost, and a lost one costs a second.
 QUEUE = 10000
 

@@ -1,5 +1,6 @@
 """A site, its clients, and damaged requests beside the model of http_model: what live_test asks of a server of pages."""
 import http.client
+import os
 import random
 import re
 import socket
@@ -46,19 +47,23 @@ def curl(*words):
 
 
 def by_curl(files):
-    """Each page by HTTP/1.1 and 1.0 as it lies there; several on one connection; HEAD; a tag that is had; a folder; what isn't there."""
+    """Each page by HTTP/1.1 and 1.0 as it lies there; several on one connection; parts of it; HEAD; a tag that is had; a folder; what isn't there."""
     base = f"http://{SERVER}"
     for name, body in files.items():
         url = base + name.replace(" ", "%20")
         assert curl(url) == body and curl("-0", url) == body, name
     told = curl("-w", "%{num_connects} ", "-o", "/dev/null", base + "/k1.bin", "-o", "/dev/null", base + "/style.css", "-o", "/dev/null", base + "/empty.txt")
     assert told == b"1 0 0 ", told
+    large = files["/m1.bin"]
+    for words, part in (("0-0", large[:1]), ("1000-", large[1000:]), ("-7", large[-7:]), ("5-99999999", large[5:])):
+        assert curl("-r", words, base + "/m1.bin") == part, words
     tag = re.search(rb"ETag: (\S+)", curl("-I", base + "/m1.bin"))[1].decode()
     statuses = [curl("-o", "/dev/null", "-w", "%{http_code}", *words).decode() for words in (
         [base + "/"], ["-H", f"If-None-Match: {tag}", base + "/m1.bin"], ["-H", 'If-Match: "other"', base + "/m1.bin"], [base + "/sub"],
         ["-L", base + "/sub"], [base + "/none"], ["--path-as-is", base + "/../../etc/passwd"], ["-d", "text", base + "/"], ["-X", "DELETE", base + "/"],
-        ["-X", "BREW", base + "/"])]
-    assert statuses == "200 304 412 301 200 404 404 405 405 501".split(), statuses
+        ["-X", "BREW", base + "/"], ["-r", "1-2", base + "/m1.bin"], ["-r", "1-2,5-6", base + "/m1.bin"], ["-r", "9999999-", base + "/m1.bin"],
+        ["-r", "1-2", "-H", f"If-Range: {tag}", base + "/m1.bin"], ["-r", "1-2", "-H", 'If-Range: "x"', base + "/m1.bin"])]
+    assert statuses == "200 304 412 301 200 404 404 405 405 501 206 200 416 206 200".split(), statuses
 
 
 def by_wget(files):
@@ -80,19 +85,20 @@ def read_all(client):
     return told
 
 
-def pipelined(count):
-    """So many requests in one go, by a client that reads nothing for a second: each is answered, in order."""
+def pipelined(count, quiet=1):
+    """So many requests in one go, by a client that reads nothing for so many seconds: each is answered, in order."""
     asked = [f"/k1.bin?{k}" if k % 3 else "/none" for k in range(count)]
     with connected() as client:
         text = b"".join(f"GET {path} HTTP/1.1\r\nHost: a\r\n{'Connection: close' if k == count - 1 else 'X: y'}\r\n\r\n".encode() for k, path in enumerate(asked))
         sent = 0
         client.setblocking(False)
-        end = time.monotonic() + 1
-        while time.monotonic() < end and sent < len(text):
+        end = time.monotonic() + quiet
+        while time.monotonic() < end:
             try:
                 sent += client.send(text[sent:sent + 65536])
             except BlockingIOError:
-                time.sleep(0.01)
+                pass
+            time.sleep(0.01)
         client.setblocking(True)
         client.settimeout(30)
         told = bytearray()
@@ -139,6 +145,84 @@ def kept_alive(count, files):
         client.close()
 
 
+def byte_by_byte(files):
+    """A request of a byte a segment, ten milliseconds apart, that has a half more behind it; and an answer that is taken a byte at a time."""
+    with connected() as client:
+        client.setsockopt(socket.IPPROTO_TCP, socket.TCP_NODELAY, 1)
+        for byte in b"GET /k1.bin HTTP/1.1\r\nHost: a\r\nX: slow\r\n\r\nGET /style.css HTTP/1.0\r\n":
+            client.sendall(bytes([byte]))
+            time.sleep(0.01)
+        client.sendall(b"\r\n")
+        told = read_all(client)
+        assert files["/k1.bin"] in told and told.endswith(files["/style.css"]), told[:300]
+    with socket.socket() as client:
+        client.setsockopt(socket.SOL_SOCKET, socket.SO_RCVBUF, 1024)
+        client.setsockopt(socket.IPPROTO_TCP, socket.TCP_MAXSEG, 88)
+        client.settimeout(30)
+        client.connect((SERVER, PORT))
+        client.sendall(b"GET /k1.bin HTTP/1.0\r\n\r\n")
+        assert b"".join(iter(lambda: client.recv(1), b"")).endswith(files["/k1.bin"])
+
+
+def by_wrk(count):
+    """How many requests wrk makes in a second on so many connections. None fails."""
+    others.need("wrk", "wrk")
+    said = subprocess.run(["wrk", "-t1", f"-c{count}", "-d1s", f"http://{SERVER}/k1.bin"], capture_output=True, text=True, check=True, timeout=60).stdout
+    assert "Non-2xx" not in said and "Socket errors" not in said, said
+    return int(re.search(r"(\d+) requests in", said)[1])
+
+
+def status_of(*words):
+    return curl("-o", "/dev/null", "-w", "%{http_code}", *words).decode()
+
+
+def are_ranges_answered():
+    return status_of("-r", "0-0", f"http://{SERVER}/k1.bin") == "206"
+
+
+def by_browser(folder):
+    """A page whose script tells what a browser made of its style sheet, its picture and another page, in a folder that is about to be served."""
+    Path(folder, "browser.html").write_text("""<!doctype html><link rel=stylesheet href=style.css><img src=pics/a.png><p id=told></p><script>
+onload = async () => told.textContent = [getComputedStyle(document.body).fontFamily, document.images[0].naturalWidth, (await (await fetch('sub')).text()).length].join()
+</script>""")
+
+    def ask():
+        program = others.need_one("chromium-headless-shell", "chromium")
+        with tempfile.TemporaryDirectory() as at:
+            words = [program, "--headless", "--no-sandbox", "--disable-gpu", f"--user-data-dir={at}", "--virtual-time-budget=5000", "--dump-dom",
+                     f"http://{SERVER}/browser.html"]
+            said = subprocess.run(words, capture_output=True, text=True, timeout=180, env={**os.environ, "HOME": at}).stdout
+        assert '<p id="told">sans-serif,40,' in said, said[-300:]
+        return re.search('id="told">(.*)</p>', said)[1]
+    return ask
+
+
+def by_ranges(files):
+    """Parts of a page (RFC 9110, 14): from the front, the last bytes, from a byte on, none; several, which are answered by all; and If-Range."""
+    url, body = f"http://{SERVER}/k1.bin", files["/k1.bin"]
+    tag = re.search(rb"ETag: (\S+)", curl("-I", url))[1].decode()
+    cases = {"0-9": body[:10], "-5": body[-5:], "10-": body[10:], "1023-1023": body[-1:], "1000-5000": body[1000:], "-5000": body, "0-1023": body}
+    for wanted, part in cases.items():
+        assert curl("-r", wanted, url) == part and status_of("-r", wanted, url) == "206", wanted
+    head = curl("-D", "-", "-o", "/dev/null", "-r", "10-19", url).decode()
+    assert f"Content-Range: bytes 10-19/{len(body)}\r\n" in head and "Content-Length: 10\r\n" in head, head
+    for wanted in (f"{len(body)}-", "5000-6000", "-0"):
+        head = curl("-D", "-", "-o", "/dev/null", "-r", wanted, url).decode()
+        assert head.startswith("HTTP/1.1 416 ") and f"Content-Range: bytes */{len(body)}\r\n" in head, (wanted, head)
+    # several ranges, a unit that isn't known, and a range that is none, may be passed over (14.2)
+    for words in (["-r", "0-1,5-6"], ["-H", "Range: lines=0-9"], ["-H", "Range: bytes=5-4"], ["-r", "0-9", "-H", 'If-Range: "other"'],
+                  ["-r", "0-9", "-H", f"If-Range: W/{tag}"]):
+        assert curl(*words, url) == body and status_of(*words, url) == "200", words
+    assert curl("-r", "0-9", "-H", f"If-Range: {tag}", url) == body[:10]
+    assert status_of("-r", "0-9", "-H", f"If-None-Match: {tag}", url) == "304" and status_of("-r", "0-9", f"http://{SERVER}/none") == "404"
+    with tempfile.TemporaryDirectory() as at:
+        half = Path(at, "m1.bin")
+        half.write_bytes(files["/m1.bin"][:500000])
+        curl("-C", "-", "-o", str(half), f"http://{SERVER}/m1.bin")
+        assert half.read_bytes() == files["/m1.bin"], "a download that goes on"
+    return f"{len(cases)} parts"
+
+
 def loaded(*words):
     """ab's requests all succeed. Requests a second."""
     others.need("ab", "apache2-utils")
@@ -158,9 +242,12 @@ SEEDS = [
     b"GET /k1.bin HTTP/1.1\r\n" + HOST + b"If-None-Match: W/\"x\", *\r\n\r\n", b"GET / HTTP/1.1\r\n" + HOST + b"Transfer-Encoding: chunked\r\n\r\n0\r\n\r\n",
     b"\r\n\r\nGET /empty.txt HTTP/1.1\nHost: [::1]:80\n\n", b"OPTIONS * HTTP/1.1\r\n" + HOST + b"\r\n", b"GET / HTTP/2.0\r\n" + HOST + b"\r\n",
     b"GET / HTTP/1.1\r\n" + HOST + b"If-Match: \"x\"\r\n\r\n", b"GET / HTTP/1.0\r\nConnection: keep-alive\r\n\r\n",
+    b"GET /k1.bin HTTP/1.1\r\n" + HOST + b"Range: bytes=10-" + b"9" * 40 + b"\r\n\r\n",
+    b"GET /style.css HTTP/1.1\r\n" + HOST + b"Range: bytes=-9\r\nIf-Range: \"x\"\r\n\r\n",
     b"GET / HTTP/1.1\r\n" + HOST + b"Content-Length: 0\r\nContent-Length: 0\r\n\r\n"]
 PIECES = [b"\r\n", b"\n", b"\r", b" ", b"\t", b":", b"\0", b"%", b"%2e", b"..", b"/", b"HTTP/1.1", b"Host: b\r\n", b"Content-Length: 5\r\n", b"chunked", b",", b"*", b"\x80",
-          b"Transfer-Encoding: gzip\r\n", b"Connection: keep-alive, close\r\n", b"a" * 300, b"X: " + b"y" * 9000 + b"\r\n", b"http://", b"?"]
+          b"Transfer-Encoding: gzip\r\n", b"Connection: keep-alive, close\r\n", b"a" * 300, b"X: " + b"y" * 9000 + b"\r\n", b"http://", b"?",
+          b"Range: bytes=1-\r\n", b"-", b"=", b"9"]
 
 
 def damaged(draw):

@@ -92,12 +92,12 @@ class End:
 
 
 class Wire:
-    def __init__(self, program, impairments, places=1024, capture=None, rings=0, tick=0.02, mtu=1500):
+    def __init__(self, program, impairments, places=1024, capture=None, rings=0, layout=None, tick=0.02, mtu=1500):
         self.asked, self.random = impairments, random.Random(impairments.seed)
         self.device = tun.open_device("wire0")
         tun.set_up("wire0", ipaddress.ip_interface(CLIENT + "/24"), mtu)
         os.set_blocking(self.device, False)
-        server = Frames(program, rings, places=places)
+        server = Frames(program, rings, layout, places=places)
         self.child, self.ends = server.process, [End(*pair) for pair in server.ends]
         self.start, self.tick, self.next_tick = time.monotonic(), tick, 0.0
         self.heap, self.entered, self.ended = [], 0, False
@@ -254,9 +254,9 @@ class Wire:
 
 
 def main():
-    """wire.py PROGRAM RINGS PLACES CAPTURE JSON: runs until SIGTERM, and then prints its counts. Without rings RINGS is 0."""
-    program, rings, places, capture, asked = sys.argv[1:]
-    wire = Wire(program, Impairments(**json.loads(asked)), int(places), capture or None, int(rings))
+    """wire.py PROGRAM RINGS LAYOUT PLACES CAPTURE JSON: runs until SIGTERM, and then prints its counts. Without rings RINGS is 0. LAYOUT is JSON too."""
+    program, rings, layout, places, capture, asked = sys.argv[1:]
+    wire = Wire(program, Impairments(**json.loads(asked)), int(places), capture or None, int(rings), json.loads(layout))
     signal.signal(signal.SIGTERM, wire.end)
     wire.run()
 

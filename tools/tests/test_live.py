@@ -2,10 +2,13 @@
 import contextlib
 import io
 import ipaddress
+import json
 import os
 import random
+import re
 import resource
 import shutil
+import signal
 import socket
 import stat
 import struct
@@ -24,6 +27,7 @@ sys.path.insert(0, str(TOOLS / "live"))
 import floods
 import http_model
 import pages
+import resets
 import rings
 import seen
 import status
@@ -151,6 +155,87 @@ class Counted(unittest.TestCase):
             self.comes(ACK, client=client)
         self.assert_counted(asked=5, opened=5, open=3)
         self.assertEqual(len(self.connections.known), 3)
+
+
+class Resets(unittest.TestCase):
+    """What an ended server's clients get, by the connections that were seen, on a device that is a pair of sockets here."""
+    def setUp(self):
+        self.connections = seen.Connections(ipaddress.ip_address(SERVER), (7, 9))
+        self.device, self.clients = socket.socketpair(socket.AF_UNIX, socket.SOCK_DGRAM)
+        self.addCleanup(self.device.close)
+        self.addCleanup(self.clients.close)
+        self.clients.setblocking(False)
+
+    def comes(self, flags, client, seq, ack=0, port=7):
+        self.connections.see(tcp_segments.segment(CLIENT, client, SERVER, port, seq, ack, flags))
+
+    def opens(self, client, port=7, answer=99, acked=100):
+        self.comes(SYN, client, 1000, port=port)
+        self.connections.see(tcp_segments.segment(SERVER, port, CLIENT, client, answer, 1001, SYN | ACK))
+        self.comes(ACK, client, 1001, acked, port)
+
+    def written(self, head=b"", most=10, answers=()):
+        """What is written to the device, as (port of the client, service, number, acknowledgement, flags), where each round is answered so."""
+        rounds = iter(answers)
+
+        class Taps:
+            """Shows the next answers behind the first call, which comes before the first round."""
+            calls = 0
+
+            def catch_up(taps, until):
+                taps.calls += 1
+                for client, ack, flags in next(rounds, ()) if taps.calls > 1 else ():
+                    self.comes(flags, client, 1001, ack)
+
+        class Clock:
+            """No time passes but what is slept."""
+            now = 0
+
+            def monotonic(clock):
+                return clock.now
+
+            def sleep(clock, seconds):
+                clock.now += seconds
+
+        with mock.patch.multiple(resets, ROUND=1, LONGEST=3, time=Clock()):
+            resets.reset_all(self.device.fileno(), head, Taps(), self.connections, most)
+        found = []
+        with contextlib.suppress(BlockingIOError):
+            while said := self.clients.recv(2000):
+                self.assertEqual(said[:len(head)], head)
+                its = tcp_segments.read(said[len(head):])
+                self.assertEqual((its.source, its.target, its.text), (SERVER, CLIENT, b""))
+                found.append((its.target_port, its.source_port, its.seq, its.ack, its.flags))
+        return found
+
+    def test_a_reset_and_a_keep_alive(self):
+        """The reset has the number that the client awaits; a keep-alive goes behind it (RFC 9293, 3.8.4), and its reset ends both."""
+        for head in (b"", bytes(10)):
+            self.opens(1)
+            self.assertEqual(self.written(head, answers=[[(1, 0, RST)]]), [(1, 7, 100, 0, RST), (1, 7, 99, 1001, ACK)])
+
+    def test_a_later_number(self):
+        """The acknowledgement that answers a keep-alive tells the number that is awaited."""
+        self.opens(1, port=7, answer=2**32 - 1, acked=0)
+        self.assertEqual(self.written(answers=[[(1, 40, ACK)], [(1, 40, RST)]]),
+                         [(1, 7, 0, 0, RST), (1, 7, 2**32 - 1, 1001, ACK), (1, 7, 40, 0, RST), (1, 7, 39, 1001, ACK)])
+
+    def test_who_gets_none(self):
+        """A connection that is half open, over, or reset, and whoever is beyond the places; the youngest go first."""
+        self.comes(SYN, 1, 1000)
+        for client in (2, 3, 4, 5, 6):
+            self.opens(client)
+        self.comes(FIN | ACK, 2, 1001, 100)
+        self.connections.see(tcp_segments.segment(SERVER, 7, CLIENT, 2, 100, 1002, FIN | ACK))
+        self.comes(RST, 3, 1001)
+        gone = [[(client, 0, RST) for client in (4, 5, 6)]]
+        self.assertEqual({client for client, *_ in self.written(most=2, answers=gone)}, {6, 5})
+        self.assertEqual(self.written(), [])
+
+    def test_a_client_that_never_answers(self):
+        """It is asked so many rounds, and then left."""
+        self.opens(1)
+        self.assertEqual(self.written(), [(1, 7, 100, 0, RST), (1, 7, 99, 1001, ACK)] * 3)
 
 
 def captured(told):
@@ -372,6 +457,36 @@ class Queues(unittest.TestCase):
         self.assertTrue(all(length == 0 for length, _ in times) and times == sorted(times), times)
         self.assertTrue(before <= times[0][1] <= times[-1][1] <= time.time_ns() // 1000, times)
 
+    def test_one_time_at_once(self):
+        """A ring that takes nothing gets one frame with the time alone, and datagrams; the next time comes once it took that one. In half a second there
+        would be 25."""
+        self.start(join=False)
+        some, lengths = self.segment(0, b"one"), []
+        for turn in range(1, 4):
+            time.sleep(0.17)
+            self.device.send(some)
+            while lengths.count(len(some)) < turn:
+                read, at = self.ring[0].raw.read(1 << 16), 0
+                while at < len(read):
+                    lengths.append(self.HEAD.unpack_from(read, at)[0])
+                    at += 16 + lengths[-1]
+        self.assertLess(lengths.count(0), 10)
+
+    def test_a_pause(self):
+        """After a pause the time that is told runs twice as fast as the clock, until it has caught up."""
+        self.start(join=True)
+        told = [self.HEAD.unpack(self.ring[0].read(16))[1] for _ in range(5)][-1]
+        self.program.send_signal(signal.SIGSTOP)
+        time.sleep(2)
+        resumed = time.time_ns() // 1000
+        self.program.send_signal(signal.SIGCONT)
+        late = 2_000_000
+        while late > 100_000:
+            next_told, now = self.HEAD.unpack(self.ring[0].read(16))[1], time.time_ns() // 1000
+            self.assertTrue(told <= next_told <= told + 250_000 + 2 * (now - resumed), (told, next_told, now - resumed))
+            late = now - next_told
+            self.assertLess(now - resumed, 10_000_000, late)
+
     def test_an_open_sum(self):
         self.start(join=True)
         for text in (b"", b"odd", bytes(range(256)) * 200):
@@ -455,13 +570,14 @@ class Launcher(unittest.TestCase):
 
     def test_bounds_are_told(self):
         for words, said in (("--memory 4096", "from 1 to 4095"), ("--idle 4294967296", "from 1 to 4294967295"), ("--places 4294967296", "from 1 to 4294967295"),
-                            ("--mtu 1501", "from 576 to 1500"), ("--rings 2 --squeues 64", "from 1 to 63"), ("--rings 2 --budget 0", "from 1 to 4294967295"),
+                            ("--mtu 1501", "from 576 to 1500"), ("--pings 4294967296", "from 0 to 4294967295"), ("--rings 2 --squeues 64", "from 1 to 63"), ("--rings 2 --budget 0", "from 1 to 4294967295"),
                             ("--rings 2 --places 65537", "at most 65536 with --rings"), ("--rings 2 --conns", "--conns is no more"), ("--device a/b", "no device's name"),
                             ("--device tun%d", "no device's name"), ("--device sixteen.letters0", "no device's name"),
                             ("--capture /nonexistent/run.pcap", "--capture /nonexistent/run.pcap: No such file or directory"),
                             ("--capture /", "--capture /: Is a directory")):
             self.assertIn(said, self.refused(*words.split()))
         self.assertIn("it takes 56 file descriptors, 5 of them for each ring, and may have 32", self.refused("--rings", "8", files=32))
+        self.assertIn("it takes 72 file descriptors, 5 of them for each ring, and may have 64", self.refused("--rings", "8", "--pages", "/", files=64))
 
     def test_a_capture_is_kept_until_the_device_is_there(self):
         """A launcher that is refused empties no capture: another one may be writing it."""
@@ -483,6 +599,30 @@ class Launcher(unittest.TestCase):
         done = subprocess.run([TOOLS / "sqlive", "status", "--device", "nowhere"], capture_output=True, text=True)
         self.assertEqual(done.returncode, 1)
         self.assertIn("no tools/sqlive runs on nowhere", done.stderr)
+
+
+def spelled(text):
+    """What comes, as a row of pages_rows writes it."""
+    ends = {"r": b"\r", "n": b"\n", "\\": b"\\"}
+
+    def part(found):
+        if found["times"]:
+            return found["byte"].encode() * int(found["times"])
+        return bytes.fromhex(found["hex"]) if found["hex"] else ends[found["end"]] if found["end"] else found["text"].encode()
+
+    form = r"\\x(?P<hex>..)|\\\*(?P<times>\d{4})(?P<byte>.)|\\(?P<end>.)|(?P<text>[^\\]+)"
+    return b"".join(map(part, re.finditer(form, text)))
+
+
+def told(answer):
+    """An answer of the model, as pages_rows tells it."""
+    said = [str(answer.status)]
+    for name in ("Allow", "Location", "Content-Range", "Connection"):
+        if value := answer.fields.get(name.lower().encode()):
+            said.append(f"{name}={value.decode()}")
+    if answer.status in (200, 206):
+        said.append(f"+{len(answer.body)}" if len(answer.body) > 16 else json.dumps(answer.body.decode("latin1")).replace("\\u0000", "\\0"))
+    return " ".join(said)
 
 
 class Pages(unittest.TestCase):
@@ -520,6 +660,30 @@ class Pages(unittest.TestCase):
         asked = b"GET / HTTP/1.1\r\nHost: a\r\n\r\n"
         self.assertEqual([(a.status, a.body, a.keeps) for a in http_model.answers(known, asked * 2 + asked[:9])[0]], [(200, b"hello", True)] * 2)
         self.assertEqual([a.status for a in http_model.answers(known, b"GET / HTTP/1.1\r\n\r\n" + asked)[0]], [400])
+
+    def test_rows_of_requests(self):
+        """The model answers to each row as is wanted of the server."""
+        folder = TOP / "crates" / "pages_rows"
+        known = http_model.pages_in((folder / "data" / "pack").read_bytes())
+        said = []
+        for line in (folder / "data" / "rows").read_text("ascii").splitlines():
+            if line and line[0] != "#":
+                name, text = line.split(": ", 1)
+                given, over = http_model.answers(known, spelled(text))
+                said.append(" ".join([name + ":", *map(told, given), "ends" if over else "stays"]))
+        self.assertEqual(said, (folder / "stdout").read_text("ascii").splitlines())
+
+    def test_the_model_of_ranges(self):
+        """The forms of RFC 9110, 14.1.2, on a page of 10,000 bytes as in its examples, and what it says of others."""
+        body = bytes(k % 251 for k in range(10000))
+        known = {b"/": http_model.Page(b"text/html", b'"t"', body)}
+        for said, status, part in (
+                (b"Range: bytes=0-499", 206, body[:500]), (b"Range: bytes=500-999", 206, body[500:1000]), (b"Range: bytes=-500", 206, body[9500:]),
+                (b"Range: bytes=9500-", 206, body[9500:]), (b"Range: bytes=-20000", 206, body), (b"Range: bytes=10000-", 416, None),
+                (b"Range: bytes=-0", 416, None), (b"Range: bytes=0-0,-1", 200, body), (b"Range: lines=0-1", 200, body), (b"Range: bytes=2-1", 200, body),
+                (b'Range: bytes=0-0\r\nIf-Range: "t"', 206, body[:1]), (b'Range: bytes=0-0\r\nIf-Range: W/"t"', 200, body)):
+            (answer,), _ = http_model.answers(known, b"GET / HTTP/1.1\r\nHost: a\r\n" + said + b"\r\n\r\n")
+            self.assertEqual((answer.status, answer.body), (status, part), said)
 
 
 class Live(unittest.TestCase):
