@@ -4,6 +4,13 @@
 set -e
 cd "$(dirname "$0")"
 (cd baseline && cargo build --release --offline --quiet)
+others=others/target/release/others
+if [ -d /usr/share/cargo/registry/tokio-1.24.2 ] && [ -d /usr/share/cargo/registry/parking_lot-0.12.1 ]; then
+    (cd others && cargo build --release --offline --quiet)
+else
+    echo "without parking_lot and tokio: apt install librust-parking-lot-dev librust-tokio-dev" >&2
+    others=
+fi
 (cd ../../crates/squeue_bench && rt run >/dev/null 2>&1)
 squeue=../../crates/squeue_bench/out/squeue_bench
 base=baseline/target/release/baseline
@@ -23,13 +30,17 @@ measure() {
 }
 
 best() {
-    sort -n "$times/$1" | head -1 | awk '{ printf "%s (%.0f)", $1, $2 }'
+    if [ -e "$times/$1" ]; then
+        sort -n "$times/$1" | head -1 | awk '{ printf "%s (%.0f)", $1, $2 }'
+    else
+        printf -- "–"
+    fi
 }
 
 echo "load at the start: $(cut -d ' ' -f 1-3 /proc/loadavg)"
 echo
-echo "| threads | squeues | chain | process | fill | Mutex | channel | combining | segments |"
-echo "|---|---|---|---|---|---|---|---|---|"
+echo "| threads | squeues | chain | process | fill | Mutex | channel | combining | segments | parking_lot | tokio |"
+echo "|---|---|---|---|---|---|---|---|---|---|---|"
 while read -r threads squeues chain entries; do
     rm -f "$times"/*
     for _ in 1 2 3 4 5; do
@@ -38,12 +49,16 @@ while read -r threads squeues chain entries; do
         for kind in mutex channel combining segments; do
             measure $kind $base $kind "$threads" "$squeues" "$chain" "$entries"
         done
+        if [ -n "$others" ]; then
+            measure parking $others parking "$threads" "$squeues" "$chain" "$entries"
+            measure tokio $others tokio "$threads" "$squeues" "$chain" "$entries"
+        fi
     done
     if [ "$(cut -d ' ' -f 3 "$times"/* | sort -u | wc -l)" != 1 ]; then
         echo "the candidates counted different totals" >&2
         exit 1
     fi
-    echo "| $threads | $squeues | $chain | $(best process) | $(best fill) | $(best mutex) | $(best channel) | $(best combining) | $(best segments) |"
+    echo "| $threads | $squeues | $chain | $(best process) | $(best fill) | $(best mutex) | $(best channel) | $(best combining) | $(best segments) | $(best parking) | $(best tokio) |"
 done <<CASES
 1 1 1 400000
 1 1 32 4000000

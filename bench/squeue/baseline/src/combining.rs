@@ -1,7 +1,7 @@
 //! Flat combining: each thread has a place for one chain, and whoever gets the lock processes the chains of all places. There
 //! is no worker. An entry returns once its chain stands in its place.
 
-use crate::{Counters, Entrance, Item};
+use crate::items::{Counters, Entrance, Item};
 use std::array;
 use std::cell::UnsafeCell;
 use std::sync::Mutex;

@@ -4,62 +4,17 @@
 //! ENTRIES, where CHAIN is 1 or 32.
 
 mod combining;
+mod items;
 mod segments;
 
 use combining::{At, Combining};
+use items::{Counters, Entrance, Item, bring_all, measured};
 use segments::Segments;
 use std::collections::VecDeque;
 use std::mem;
 use std::sync::mpsc::{Receiver, Sender, channel};
 use std::sync::{Condvar, Mutex, MutexGuard};
 use std::thread::scope;
-use std::time::Instant;
-
-/// Item `n` of a key. Its amount is looked up when it is processed.
-#[derive(Clone, Copy)]
-struct Item {
-    key: u32,
-    n: u32,
-}
-
-/// For each key the amounts of its items.
-type Amounts = Vec<Vec<u32>>;
-
-/// For each key the sum of the amounts that came.
-struct Counters<'a> {
-    amounts: &'a Amounts,
-    totals: Vec<u64>,
-}
-
-impl<'a> Counters<'a> {
-    fn new(amounts: &'a Amounts) -> Counters<'a> {
-        let totals = vec![0; amounts.len()];
-        Counters { amounts, totals }
-    }
-
-    fn add(&mut self, item: Item) {
-        let key = item.key as usize;
-        self.totals[key] += u64::from(self.amounts[key][item.n as usize]);
-    }
-
-    fn sum(&self) -> u64 {
-        self.totals.iter().sum()
-    }
-}
-
-/// Where a thread brings chains of N items.
-trait Entrance<const N: usize> {
-    fn bring(&self, chain: [Item; N]);
-}
-
-/// Brings all items to each queue, and goes round the queues chain by chain.
-fn bring_all<const N: usize>(items: &[Item], queues: &[impl Entrance<N>]) {
-    for chain in items.as_chunks().0 {
-        for queue in queues {
-            queue.bring(*chain);
-        }
-    }
-}
 
 /// What waits in a queue, and whether nothing more will come.
 struct Waiting {
@@ -224,25 +179,11 @@ fn run<const N: usize>(kind: &str, rings: &[Vec<Item>], workers: &mut [Counters<
 
 fn main() {
     let words: Vec<String> = std::env::args().skip(1).collect();
-    let number = |i: usize| words[i].parse::<u32>().expect("a number");
-    let (threads, queues, chain, entries) = (number(1), number(2), number(3), number(4));
-    let items = entries / (queues * threads) / 32 * 32;
-    let amounts: Amounts = (0..threads)
-        .map(|key| (0..items).map(|n| (key + n) % 100).collect())
-        .collect();
-    let rings: Vec<Vec<Item>> = (0..threads)
-        .map(|key| (0..items).map(|n| Item { key, n }).collect())
-        .collect();
-    let mut workers: Vec<Counters<'_>> = (0..queues).map(|_| Counters::new(&amounts)).collect();
-    let start = Instant::now();
-    match chain {
-        1 => run::<1>(&words[0], &rings, &mut workers),
-        _ => run::<32>(&words[0], &rings, &mut workers),
-    }
-    let nanos = start.elapsed().as_nanos();
-    let sum: u64 = workers.iter().map(Counters::sum).sum();
-    println!(
-        "entries {} nanos {nanos} total {sum}",
-        queues * threads * items
-    );
+    measured(&words[1..], |is_single, rings, workers| {
+        if is_single {
+            run::<1>(&words[0], rings, workers);
+        } else {
+            run::<32>(&words[0], rings, workers);
+        }
+    });
 }

@@ -1,7 +1,7 @@
 //! A queue of segments with 31 places each, as crossbeam's `SegQueue` has them, and one consumer, which looks for a while and
 //! then parks. A place holds a chain.
 
-use crate::{Counters, Entrance, Item};
+use crate::items::{Counters, Entrance, Item};
 use std::array;
 use std::cell::UnsafeCell;
 use std::hint::spin_loop;
