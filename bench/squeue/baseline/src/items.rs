@@ -1,5 +1,6 @@
 //! What is brought to a queue, what becomes of it there, and how a case is run and told.
 
+use std::thread::scope;
 use std::time::Instant;
 
 /// Item `n` of a key. Its amount is looked up when it is processed.
@@ -46,6 +47,37 @@ pub fn bring_all<const N: usize>(items: &[Item], queues: &[impl Entrance<N>]) {
             queue.bring(*chain);
         }
     }
+}
+
+/// A queue whose worker processes what comes, until it is closed.
+pub trait Worked: Default + Sync {
+    fn work(&self, counters: &mut Counters<'_>);
+
+    fn close(&self);
+}
+
+/// Brings the items of each thread to queues of this kind, each with a worker's thread.
+pub fn run_worked<Q: Worked, const N: usize>(rings: &[Vec<Item>], workers: &mut [Counters<'_>])
+where
+    for<'q> &'q Q: Entrance<N>,
+{
+    let queues: Vec<Q> = workers.iter().map(|_| Q::default()).collect();
+    let entrances: Vec<&Q> = queues.iter().collect();
+    scope(|threads| {
+        for (queue, counters) in queues.iter().zip(workers) {
+            threads.spawn(move || queue.work(counters));
+        }
+        let bringing: Vec<_> = rings
+            .iter()
+            .map(|items| threads.spawn(|| bring_all::<N>(items, &entrances)))
+            .collect();
+        for thread in bringing {
+            thread.join().expect("no thread panics");
+        }
+        for queue in &queues {
+            queue.close();
+        }
+    });
 }
 
 /// A case by its words THREADS QUEUES CHAIN ENTRIES: what `run` is given are the items of each thread and the counters of each queue.

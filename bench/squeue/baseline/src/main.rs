@@ -8,7 +8,7 @@ mod items;
 mod segments;
 
 use combining::{At, Combining};
-use items::{Counters, Entrance, Item, bring_all, measured};
+use items::{Counters, Entrance, Item, Worked, bring_all, measured, run_worked};
 use segments::Segments;
 use std::collections::VecDeque;
 use std::mem;
@@ -17,33 +17,26 @@ use std::sync::{Condvar, Mutex, MutexGuard};
 use std::thread::scope;
 
 /// What waits in a queue, and whether nothing more will come.
+#[derive(Default)]
 struct Waiting {
     items: VecDeque<Item>,
     closed: bool,
 }
 
 /// A queue under a lock. Who finds it empty wakes the worker.
+#[derive(Default)]
 struct Locked {
     waiting: Mutex<Waiting>,
     filled: Condvar,
 }
 
 impl Locked {
-    fn new() -> Locked {
-        let waiting = Waiting {
-            items: VecDeque::new(),
-            closed: false,
-        };
-        Locked {
-            waiting: Mutex::new(waiting),
-            filled: Condvar::new(),
-        }
-    }
-
     fn lock(&self) -> MutexGuard<'_, Waiting> {
         self.waiting.lock().expect("no thread panics")
     }
+}
 
+impl Worked for Locked {
     fn close(&self) {
         self.lock().closed = true;
         self.filled.notify_one();
@@ -96,26 +89,6 @@ fn consume<const N: usize>(from: Receiver<[Item; N]>, counters: &mut Counters<'_
     }
 }
 
-fn run_locked<const N: usize>(rings: &[Vec<Item>], workers: &mut [Counters<'_>]) {
-    let queues: Vec<Locked> = workers.iter().map(|_| Locked::new()).collect();
-    let entrances: Vec<&Locked> = queues.iter().collect();
-    scope(|threads| {
-        for (queue, counters) in queues.iter().zip(workers) {
-            threads.spawn(move || queue.work(counters));
-        }
-        let bringing: Vec<_> = rings
-            .iter()
-            .map(|items| threads.spawn(|| bring_all::<N>(items, &entrances)))
-            .collect();
-        for thread in bringing {
-            thread.join().expect("no thread panics");
-        }
-        for queue in &queues {
-            queue.close();
-        }
-    });
-}
-
 fn run_channels<const N: usize>(rings: &[Vec<Item>], workers: &mut [Counters<'_>]) {
     scope(|threads| {
         let mut entrances = Vec::new();
@@ -148,32 +121,12 @@ fn run_combining<const N: usize>(rings: &[Vec<Item>], workers: &mut [Counters<'_
     }
 }
 
-fn run_segments<const N: usize>(rings: &[Vec<Item>], workers: &mut [Counters<'_>]) {
-    let queues: Vec<Segments<N>> = workers.iter().map(|_| Segments::new()).collect();
-    let entrances: Vec<&Segments<N>> = queues.iter().collect();
-    scope(|threads| {
-        for (queue, counters) in queues.iter().zip(workers) {
-            threads.spawn(move || queue.consume(counters));
-        }
-        let bringing: Vec<_> = rings
-            .iter()
-            .map(|items| threads.spawn(|| bring_all::<N>(items, &entrances)))
-            .collect();
-        for thread in bringing {
-            thread.join().expect("no thread panics");
-        }
-        for queue in &queues {
-            queue.close();
-        }
-    });
-}
-
 fn run<const N: usize>(kind: &str, rings: &[Vec<Item>], workers: &mut [Counters<'_>]) {
     match kind {
-        "mutex" => run_locked::<N>(rings, workers),
+        "mutex" => run_worked::<Locked, N>(rings, workers),
         "channel" => run_channels::<N>(rings, workers),
         "combining" => run_combining::<N>(rings, workers),
-        _ => run_segments::<N>(rings, workers),
+        _ => run_worked::<Segments<N>, N>(rings, workers),
     }
 }
 

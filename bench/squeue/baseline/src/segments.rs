@@ -1,7 +1,7 @@
 //! A queue of segments with 31 places each, as crossbeam's `SegQueue` has them, and one consumer, which looks for a while and
 //! then parks. A place holds a chain.
 
-use crate::items::{Counters, Entrance, Item};
+use crate::items::{Counters, Entrance, Item, Worked};
 use std::array;
 use std::cell::UnsafeCell;
 use std::hint::spin_loop;
@@ -57,8 +57,8 @@ pub struct Segments<const N: usize> {
 
 unsafe impl<const N: usize> Sync for Segments<N> {}
 
-impl<const N: usize> Segments<N> {
-    pub fn new() -> Self {
+impl<const N: usize> Default for Segments<N> {
+    fn default() -> Self {
         let first = Segment::new();
         Segments {
             tail: Tail {
@@ -71,7 +71,9 @@ impl<const N: usize> Segments<N> {
             consumer: OnceLock::new(),
         }
     }
+}
 
+impl<const N: usize> Segments<N> {
     /// The next place. Who takes a segment's last one hangs the next segment on.
     fn next_place(&self) -> &Place<N> {
         loop {
@@ -82,7 +84,12 @@ impl<const N: usize> Segments<N> {
                 yield_now();
                 continue;
             }
-            if self.tail.index.compare_exchange_weak(index, index + 1, SeqCst, Acquire).is_err() {
+            if self
+                .tail
+                .index
+                .compare_exchange_weak(index, index + 1, SeqCst, Acquire)
+                .is_err()
+            {
                 spin_loop();
                 continue;
             }
@@ -102,11 +109,6 @@ impl<const N: usize> Segments<N> {
                 consumer.unpark();
             }
         }
-    }
-
-    pub fn close(&self) {
-        self.closed.store(true, SeqCst);
-        self.wake();
     }
 
     /// Waits for the place, and tells whether a chain came.
@@ -131,9 +133,16 @@ impl<const N: usize> Segments<N> {
             }
         }
     }
+}
+
+impl<const N: usize> Worked for Segments<N> {
+    fn close(&self) {
+        self.closed.store(true, SeqCst);
+        self.wake();
+    }
 
     /// Takes chain after chain, and processes it.
-    pub fn consume(&self, counters: &mut Counters<'_>) {
+    fn work(&self, counters: &mut Counters<'_>) {
         self.consumer.set(current()).expect("one consumer");
         let mut segment = self.first;
         loop {

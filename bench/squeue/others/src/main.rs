@@ -5,7 +5,7 @@
 #[path = "../../baseline/src/items.rs"]
 mod items;
 
-use items::{Counters, Entrance, Item, bring_all, measured};
+use items::{Counters, Entrance, Item, Worked, bring_all, measured, run_worked};
 use parking_lot::{Condvar, Mutex};
 use std::collections::VecDeque;
 use std::mem;
@@ -27,7 +27,7 @@ struct Locked {
     filled: Condvar,
 }
 
-impl Locked {
+impl Worked for Locked {
     fn close(&self) {
         self.waiting.lock().closed = true;
         self.filled.notify_one();
@@ -81,26 +81,6 @@ async fn act<const N: usize>(mut from: UnboundedReceiver<[Item; N]>, counters: &
     }
 }
 
-fn run_locked<const N: usize>(rings: &[Vec<Item>], workers: &mut [Counters<'_>]) {
-    let queues: Vec<Locked> = workers.iter().map(|_| Locked::default()).collect();
-    let entrances: Vec<&Locked> = queues.iter().collect();
-    scope(|threads| {
-        for (queue, counters) in queues.iter().zip(workers) {
-            threads.spawn(move || queue.work(counters));
-        }
-        let bringing: Vec<_> = rings
-            .iter()
-            .map(|items| threads.spawn(|| bring_all::<N>(items, &entrances)))
-            .collect();
-        for thread in bringing {
-            thread.join().expect("no thread panics");
-        }
-        for queue in &queues {
-            queue.close();
-        }
-    });
-}
-
 /// Each actor is the main task of a runtime with one thread, so that it may borrow its counters.
 fn run_actors<const N: usize>(rings: &[Vec<Item>], workers: &mut [Counters<'_>]) {
     scope(|threads| {
@@ -124,7 +104,7 @@ fn run_actors<const N: usize>(rings: &[Vec<Item>], workers: &mut [Counters<'_>])
 
 fn run<const N: usize>(kind: &str, rings: &[Vec<Item>], workers: &mut [Counters<'_>]) {
     match kind {
-        "parking" => run_locked::<N>(rings, workers),
+        "parking" => run_worked::<Locked, N>(rings, workers),
         _ => run_actors::<N>(rings, workers),
     }
 }
