@@ -7,3 +7,4 @@ pub mod ValidLemmas
 pub mod NumberLemmas
 pub mod ChallengeLemmas
 pub mod ForgettingLemmas
+pub mod ShorteningLemmas

@@ -13,3 +13,4 @@ pub mod Endings
 pub mod Numbering
 pub mod Challenges
 pub mod Forgetting
+pub mod Shortening

@@ -8,6 +8,7 @@ ghost use Rattle.tcb_machine.specs.CallAnswers.{tcp_call};
 ghost use Rattle.tcb_machine.specs.Challenges.{ChallengeIsAlone};
 ghost use Rattle.tcb_machine.specs.Forgetting.{ForgettingKeepsNumber, ForgettingKeepsWindow, ForgettingHoldsOrder, ForgettingHoldsLess, ForgettingKeepsValid};
 ghost use Rattle.tcb_machine.specs.Forgetting.{ForgettingKeepsNumbers, ForgettingAddsNothing};
+ghost use Rattle.tcb_machine.specs.Shortening.{ShorteningLengthensNone, ShorteningKeepsValid, ShorteningKeepsNumbers, ShorteningAddsNothing};
 ghost use Rattle.tcb_machine.specs.Numbering.{IsNumbered, SegmentKeepsNumbers, TimeKeepsNumbers, CallKeepsNumbers, OutputKeepsNumbers, ResendKeepsNumbers};
 ghost use Rattle.tcb_machine.specs.Output.{output};
 ghost use Rattle.tcb_machine.specs.Room.{StreamsBelow, SegmentAddsLittle, TimeAddsNothing, CallAddsNothing, OutputAddsNothing, ResendAddsNothing};
@@ -105,4 +106,12 @@ pub fn forgetting_keeps_what_is_acknowledged()
     ensures valid { ForgettingKeepsValid }
     ensures numbers { ForgettingKeepsNumbers }
     ensures room { ForgettingAddsNothing }
+{}
+
+/// A block that sends no longer segments than its path takes lengthens none. All that holds of every block holds of it.
+pub fn shortening_lengthens_no_segment()
+    ensures less { ShorteningLengthensNone }
+    ensures valid { ShorteningKeepsValid }
+    ensures numbers { ShorteningKeepsNumbers }
+    ensures room { ShorteningAddsNothing }
 {}

@@ -3,9 +3,11 @@
 ghost use Rattle.std.specs.Prelude.{◌≡◌, ◌<◌, ◌^◌, false, OnOk};
 ghost use Rattle.tcb_machine.specs.BlockState.{held_in, sends_ack};
 ghost use Rattle.tcb_machine.specs.Forgetting.{forgetting};
+ghost use Rattle.tcb_machine.specs.Shortening.{shortening};
 ghost use Rattle.tcb_machine.specs.States.{is_listen};
 
 use super::Tcb;
+use crate::limits::LEAST_MSS;
 use std::alloc::{AllocError, Global};
 
 impl Tcb {
@@ -23,6 +25,15 @@ impl Tcb {
         ensures { self.new ≡ forgetting self.old }
     {
         self.recv.forget_ahead();
+    }
+
+    /// From now on no segment has more than `most` bytes of text, or than 64 where that is less: the path takes no longer ones (RFC 1191, 3).
+    #[tactic(auto, unfolding(crate::specs::Shortening::shortening))]
+    pub fn shorten(&mut self, most: u16)
+        requires open { is_listen self.old.state ≡ false }
+        ensures { self.new ≡ shortening most self.old }
+    {
+        self.agreed.mss = self.agreed.mss.min(most.max(LEAST_MSS));
     }
 
     /// Sends an acknowledgement, as a challenge (RFC 5961). After NoMemory nothing more is promised.
