@@ -41,22 +41,24 @@ use streams::tell_streams;
 const TOLD: &str = "link cut count records";
 
 /// The fields of packets.
-const PACKETS: [(&str, Form); 7] = [
+const PACKETS: [(&str, Form); 8] = [
     ("packets", Form::Packets),
     ("places", Form::Places),
     ("datagrams", Form::Datagrams),
     ("pings", Form::Pings),
+    ("too_long", Form::TooLong),
     ("replies", Form::Replies),
     ("texts", Form::Texts),
     ("refused", Form::Refused),
 ];
 
 /// The fields of a row of what is read.
-const FIELDS: [&str; 16] = [
+const FIELDS: [&str; 17] = [
     "packets",
     "places",
     "datagrams",
     "pings",
+    "too_long",
     "replies",
     "texts",
     "refused",

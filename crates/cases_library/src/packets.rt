@@ -6,6 +6,7 @@
 //! | `places` | LINK HEX | where the datagram begins |
 //! | `datagrams` | LINK HEX | the UDP datagram |
 //! | `pings` | HEX | the echo request, and the reply's bytes |
+//! | `too_long` | HEX | what a router says of a segment that was too long |
 //! | `replies` | FLAGS SEQ ACK WINDOW, maybe `mss=N` and `scale=N`, maybe HEX of a text | its bytes |
 //! | `texts` | HEX | the bytes of a UDP datagram with this text |
 //! | `refused` | FLAGS SEQ ACK LENGTH | the reset that answers a segment with so long a text |
@@ -14,7 +15,7 @@ ghost use Rattle.std.specs.Prelude.{◌≤◌, IfOk, length};
 
 use crate::ends::{tell_address, tell_end};
 use case_rows::{RowFault, RowWords, Wrong, add_bytes, add_flags, add_text, spelled, told_at};
-use icmp_codec::{ping_in, pong};
+use icmp_codec::{ping_in, pong, too_long_in};
 use segment_codec::{MOST_TEXT, Options, Packet, Reply, Seg, decode, encode, ip_place, refusal};
 use sq_base::{Addr, Link, Octets, Tuple};
 use std::alloc::{AllocError, Global};
@@ -28,6 +29,7 @@ pub enum Form {
     Places,
     Datagrams,
     Pings,
+    TooLong,
     Replies,
     Texts,
     Refused,
@@ -166,6 +168,23 @@ fn ping(out: &mut String, alloc: Global, line: &str) -> Result<(), Wrong> {
     Ok(())
 }
 
+/// Tells what a router says of a segment that was too long: who says it to whom, the segment's client and server, its number, and the MTU.
+fn too_long(out: &mut String, alloc: Global, line: &str) -> Result<(), Wrong> {
+    let body = body_of(alloc, line)?;
+    match too_long_in(body.as_slice()) {
+        Some(told) => {
+            out.push_str("too long")?;
+            tell_address(out, told.src)?;
+            tell_address(out, told.dst)?;
+            tell_end(out, told.ends.client, told.ends.client_port)?;
+            tell_end(out, told.ends.server, told.ends.server_port)?;
+            writeln!(out, " seq {} mtu {}", told.seq, told.mtu)?;
+        }
+        None => out.push_str("none\n")?,
+    }
+    Ok(())
+}
+
 /// A word sets an option of a reply. Says whether it was one.
 fn set(reply: &mut Reply, word: &str) -> Result<bool, Wrong> {
     match word.split_once('=') {
@@ -245,6 +264,7 @@ fn tell(form: Form, out: &mut String, alloc: Global, line: &str) -> Result<(), W
         Form::Places => place(out, alloc, line),
         Form::Datagrams => datagram(out, alloc, line),
         Form::Pings => ping(out, alloc, line),
+        Form::TooLong => too_long(out, alloc, line),
         Form::Replies => reply(out, alloc, line),
         Form::Texts => text(out, alloc, line),
         Form::Refused => refused(out, alloc, line),

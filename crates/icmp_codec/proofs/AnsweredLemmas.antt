@@ -86,7 +86,7 @@ other_type : (message : List ℕ) → byte message 0 ≡ 0 → is_echo 8 message
 unfolding is_echo
 other_type message kind = simp kind
 
-passed_over : (a b : Bool) (x : Option PingOf) → b ≡ false → cond (a && b) x None ≡ None
+pub passed_over : (a b : Bool) (x : Option PingOf) → b ≡ false → cond (a && b) x None ≡ None
 passed_over true false x e = refl
 passed_over true true x e = absurd (let no : ⊥ = cc in no)
 passed_over false b x e = refl

@@ -68,13 +68,18 @@ other_protocol verify ip least whole first flags proto =
     let t5 : eqb (word ip 2) 0 ≡ false = grind (arith, nat_tests) in
     simp (first, t1, t2, t3, t4, t5, flags, proto)
 
-pub no_segment : (ip : List ℕ) (p : PingOf) (verify : Bool) → ping_in ip ≡ Some p → packet_in RawIp ip verify ≡ packet.Other
-unfolding echo_in is_icmp
-no_segment ip p verify e =
-    let found = cond_some (is_icmp ip && is_echo 8 (message_of ip)) (message_in ip) p e in
-    let icmp = (and_parts _ _ found.0).0 in
+-- and that of any message
+pub icmp_is_other : (ip : List ℕ) (verify : Bool) → is_icmp ip ≡ true → packet_in RawIp ip verify ≡ packet.Other
+unfolding is_icmp
+icmp_is_other ip verify icmp =
     let n = named ip icmp in
     let first = and_parts _ _ (and_parts _ _ icmp).1 in
     let flags = and_parts _ _ (and_parts _ _ (and_parts _ _ first.1).1).1 in
     let proto = and_parts _ _ flags.1 in
     other_protocol verify ip n.0 n.1 (eqb-true _ _ first.0) flags.0 (eqb-true _ _ proto.0)
+
+pub no_segment : (ip : List ℕ) (p : PingOf) (verify : Bool) → ping_in ip ≡ Some p → packet_in RawIp ip verify ≡ packet.Other
+unfolding echo_in
+no_segment ip p verify e =
+    let found = cond_some (is_icmp ip && is_echo 8 (message_of ip)) (message_in ip) p e in
+    icmp_is_other ip verify (and_parts _ _ found.0).0

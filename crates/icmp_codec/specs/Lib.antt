@@ -2,3 +2,4 @@ pub mod Limits
 pub mod EchoRequest
 pub mod EchoReply
 pub mod Answered
+pub mod TooLong

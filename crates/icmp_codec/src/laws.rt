@@ -1,4 +1,4 @@
-//! A request is answered in its own length, and its reply is read as one, and as nothing else.
+//! A request is answered in its own length, and its reply is read as one, and as nothing else. So is what a router says.
 
 ghost use Rattle.std.specs.Prelude.{◌≡◌, ◌<◌, ℕ, Bool, List, All, Some};
 ghost use Rattle.sq_base.specs.declared.kinds.Link.TheVariants.{RawIp};
@@ -7,6 +7,7 @@ ghost use Rattle.segment_codec.specs.declared.packet.Packet.TheVariants as packe
 ghost use Rattle.icmp_codec.specs.Answered.{Fits, IsReadFrom, ReadsAsReply, IsNoRequest};
 ghost use Rattle.icmp_codec.specs.EchoRequest.{PingOf, ping_in};
 ghost use Rattle.icmp_codec.specs.EchoReply.{pong_bytes};
+ghost use Rattle.icmp_codec.specs.TooLong.{IsNoPing, IsNoSegment};
 
 /// A request that was read from bytes has numbers that fit their fields, and its reply is as long as its datagram was.
 pub fn a_request_fits()
@@ -26,4 +27,10 @@ pub fn a_reply_is_read_as_one()
 /// The bytes of a reply are no request. So it is never answered, and two servers can't be set on each other.
 pub fn a_reply_is_no_request()
     ensures { (ping : PingOf) → IsNoRequest (pong_bytes ping) }
+{}
+
+/// What a router says of a datagram that is too long is no echo request, and another protocol than TCP to `segment_codec`'s reader.
+pub fn a_report_is_apart()
+    ensures request { IsNoPing }
+    ensures segment { IsNoSegment }
 {}

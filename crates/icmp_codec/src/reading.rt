@@ -15,7 +15,7 @@ const ICMP: u8 = 1;
 const ECHO: u8 = 8;
 
 /// The bytes of an IPv4 header without options.
-const IP_HEADER: usize = 20;
+pub(crate) const IP_HEADER: usize = 20;
 
 /// The bytes of type, code and checksum.
 const ICMP_HEADER: usize = 4;
@@ -45,7 +45,7 @@ pub fn ping_in(body: &[u8]) -> Option<Ping<'_>>
 
 /// A whole datagram of IPv4 and ICMP, without options and no fragment, that has room for an echo message.
 #[tactic(auto, unfolding(crate::specs::EchoRequest::is_icmp))]
-fn is_icmp(ip: &[u8]) -> bool
+pub(crate) fn is_icmp(ip: &[u8]) -> bool
     ensures is { result ≡ is_icmp ip.now }
     ensures least { result ≡ true → ip_header_size + icmp_header_size + least_rest ≤ word ip.now 2 }
     ensures whole { result ≡ true → word ip.now 2 ≤ length ip.now }
@@ -63,7 +63,7 @@ fn is_icmp(ip: &[u8]) -> bool
 }
 
 /// What follows the IPv4 header, without padding.
-fn message_of(ip: &[u8]) -> &[u8]
+pub(crate) fn message_of(ip: &[u8]) -> &[u8]
     requires least { ip_header_size ≤ word ip.now 2 }
     requires whole { word ip.now 2 ≤ length ip.now }
     ensures is { result.now ≡ message_of ip.now }
@@ -84,7 +84,7 @@ fn is_request(message: &[u8]) -> bool
 }
 
 /// The checksum among these bytes is right (RFC 1071).
-fn sum_holds(bytes: &[u8]) -> bool
+pub(crate) fn sum_holds(bytes: &[u8]) -> bool
     ensures { result ≡ sum_holds bytes.now }
 {
     inet_sum(0, bytes) == 0xffff
