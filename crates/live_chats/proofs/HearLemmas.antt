@@ -6,11 +6,12 @@ use Rattle.tcb_machine.specs.Limits.{last_time}
 use Rattle.live_server.specs.declared.acting.Datagram.{Datagram}
 use Rattle.live_server.specs.declared.conn.Conn.{Conn}
 use Rattle.live_server.specs.declared.conn.Met.{Met}
+use Rattle.live_server.specs.declared.measures.Measures.{Measures}
 use Rattle.squeue_streams.specs.Taking.{Takes, items_of, state_of}
-use Rattle.live_chats.specs.Hearing.{ChatOf, Hears, hearing, hearing_all, is_opening, losing, meeting, nobody, silent, timing}
+use Rattle.live_chats.specs.Hearing.{ChatOf, Hears, hearing, hearing_all, is_opening, losing, meeting, nobody, shortening, silent, timing}
 use Rattle.live_chats.specs.Telling.{ItemsTell}
 use Rattle.live_chats.specs.declared.item.ChatItem.{ChatItem}
-use Rattle.live_chats.specs.declared.item.ChatItem.TheVariants.{Meets, Opens, Time}
+use Rattle.live_chats.specs.declared.item.ChatItem.TheVariants.{Meets, Opens, Shortens, Time}
 
 -- nothing of the answer before stays
 pub hearing-silent : (x : ChatItem) (c : ChatOf) → hearing x (silent c) ≡ hearing x c
@@ -18,7 +19,8 @@ unfolding hearing
 hearing-silent (Opens ends conn) c = refl
 hearing-silent (Meets now iss seg text) c =
     elim c.conn as (λ o. meeting (min now last_time) iss seg text.items o (silent c) ≡ meeting (min now last_time) iss seg text.items o c) [ None ↦ refl | Some d ↦ refl ]
-hearing-silent (Time tight now) c = elim c.conn as (λ o. timing tight (min now last_time) o (silent c) ≡ timing tight (min now last_time) o c) [ None ↦ refl | Some d ↦ refl ]
+hearing-silent (Shortens seq most) c = elim c.conn as (λ o. shortening seq most o (silent c) ≡ shortening seq most o c) [ None ↦ refl | Some d ↦ refl ]
+hearing-silent (Time measures now) c = elim c.conn as (λ o. timing measures (min now last_time) o (silent c) ≡ timing measures (min now last_time) o c) [ None ↦ refl | Some d ↦ refl ]
 
 -- an item doesn't lose memory
 hearing-here : (x : ChatItem) (c : ChatOf) → c.lost ≡ false → (hearing x c).lost ≡ false
@@ -26,7 +28,8 @@ unfolding hearing
 hearing-here (Opens ends conn) c here = refl
 hearing-here (Meets now iss seg text) c here =
     elim c.conn as (λ o. (meeting (min now last_time) iss seg text.items o c).lost ≡ false) [ None ↦ here | Some d ↦ here ]
-hearing-here (Time tight now) c here = elim c.conn as (λ o. (timing tight (min now last_time) o c).lost ≡ false) [ None ↦ here | Some d ↦ here ]
+hearing-here (Shortens seq most) c here = elim c.conn as (λ o. (shortening seq most o c).lost ≡ false) [ None ↦ here | Some d ↦ here ]
+hearing-here (Time measures now) c here = elim c.conn as (λ o. (timing measures (min now last_time) o c).lost ≡ false) [ None ↦ here | Some d ↦ here ]
 
 pub hearing_all-here : (xs : List ChatItem) (c : ChatOf) → c.lost ≡ false → (hearing_all xs c).lost ≡ false
 hearing_all-here [] c here = here
@@ -37,16 +40,21 @@ opening_forgets : (x : ChatItem) (c d : ChatOf) → is_opening x ≡ true → he
 unfolding hearing
 opening_forgets (Opens ends conn) c d is = refl
 opening_forgets (Meets now iss seg text) c d is = absurd (true≢false (sym is))
-opening_forgets (Time tight now) c d is = absurd (true≢false (sym is))
+opening_forgets (Shortens seq most) c d is = absurd (true≢false (sym is))
+opening_forgets (Time measures now) c d is = absurd (true≢false (sym is))
 
--- a segment and the time leave the ends
+-- a segment, what a router says of one, and the time leave the ends
 pub meets_keeps_ends : (now iss : ℕ) (seg : Seg) (text : Vec ℕ Global) (c : ChatOf) → (hearing (Meets now iss seg text) c).ends ≡ c.ends
 unfolding hearing
 meets_keeps_ends now iss seg text c = elim c.conn as (λ o. (meeting (min now last_time) iss seg text.items o c).ends ≡ c.ends) [ None ↦ refl | Some d ↦ refl ]
 
-pub time_keeps_ends : (tight : Bool) (now : ℕ) (c : ChatOf) → (hearing (Time tight now) c).ends ≡ c.ends
+pub shortens_keeps_ends : (seq most : ℕ) (c : ChatOf) → (hearing (Shortens seq most) c).ends ≡ c.ends
 unfolding hearing
-time_keeps_ends tight now c = elim c.conn as (λ o. (timing tight (min now last_time) o c).ends ≡ c.ends) [ None ↦ refl | Some d ↦ refl ]
+shortens_keeps_ends seq most c = elim c.conn as (λ o. (shortening seq most o c).ends ≡ c.ends) [ None ↦ refl | Some d ↦ refl ]
+
+pub time_keeps_ends : (measures : Measures) (now : ℕ) (c : ChatOf) → (hearing (Time measures now) c).ends ≡ c.ends
+unfolding hearing
+time_keeps_ends measures now c = elim c.conn as (λ o. (timing measures (min now last_time) o c).ends ≡ c.ends) [ None ↦ refl | Some d ↦ refl ]
 
 -- where it is lost, and no connection begins
 passed_by : (lost opens : Bool) → (not lost || opens) ≡ false → (lost ≡ true) × (opens ≡ false)

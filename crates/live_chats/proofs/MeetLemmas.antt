@@ -8,6 +8,7 @@ use Rattle.segment_codec.specs.declared.packet.Seg.{Seg}
 use Rattle.sq_base.specs.declared.kinds.Tuple.{Tuple}
 use Rattle.tcb_machine.specs.Limits.{last_time}
 use Rattle.live_server.specs.Acts.{emptied, is_over, meets}
+use Rattle.live_server.specs.PathMtu.{shortens}
 use Rattle.live_server.specs.Table.{Conns, conn_at, place_of, replaced, settled, tuple_eq, without, IsNew}
 use Rattle.live_server.specs.declared.acting.Datagram.{Datagram}
 use Rattle.live_server.specs.declared.conn.Conn.{Conn}
@@ -17,7 +18,7 @@ use Rattle.live_server.proofs.MeetLemmas.{gone_is_over}
 use Rattle.live_server.proofs.TableLemmas.{conn_written, first_at, look_without, same, tuple_equivalence, within_at, without_set}
 use Rattle.live_chats.specs.Hearing.{ChatOf, conn_in, hearing, met_by}
 use Rattle.live_chats.specs.Seating.{Judges, MetAt, chat_of}
-use Rattle.live_chats.specs.declared.item.ChatItem.TheVariants.{Meets}
+use Rattle.live_chats.specs.declared.item.ChatItem.TheVariants.{Meets, Shortens}
 
 -- a segment tells what became of it
 pub meets_judge : (now iss : ℕ) (seg : Seg) (text : Vec ℕ Global) → Judges (Meets now iss seg text)
@@ -53,6 +54,30 @@ module _ (now iss : ℕ) (time : now ≤ last_time) (seg : Seg) (text : Vec ℕ 
 
     pub sent_is : after ≡ before ++ (meets now iss seg bytes t d).sent
     sent_is = met.sent ∙ ap (λ (c : ChatOf). before ++ c.sent) hears_is
+
+-- so does what a router says of one
+pub shortens_judge : (seq most : ℕ) → Judges (Shortens seq most)
+unfolding hearing
+shortens_judge seq most t d = ((shortens seq most t d).met, refl)
+
+module _ (seq most : ℕ) (t : Tuple) (d : Conn) where
+  path_is : hearing (Shortens seq most) (chat_of t d) ≡ met_by (shortens seq most t d) (chat_of t d)
+  unfolding hearing
+  path_is = refl
+
+  module _ (i : ℕ) (m : Met) (was is : Conns) (before after : List Datagram) (met : MetAt (Shortens seq most) t d i m was is before after) where
+    pub path_met : m ≡ (shortens seq most t d).met
+    path_met = one (sym met.met ∙ ap (λ (c : ChatOf). c.met) path_is)
+      where
+        one : Some m ≡ Some (shortens seq most t d).met → m ≡ (shortens seq most t d).met
+        one e = cc
+
+    pub path_table : is ≡ replaced i (shortens seq most t d).conn was
+    unfolding replaced
+    path_table = met.table ∙ ap (λ (c : ChatOf). settled i (set_value_at was i (conn_in c.conn))) path_is
+
+    pub path_sent : after ≡ before ++ (shortens seq most t d).sent
+    path_sent = met.sent ∙ ap (λ (c : ChatOf). before ++ c.sent) path_is
 
 -- who met nobody has left
 module _ (now iss : ℕ) (seg : Seg) (bytes : List ℕ) (t : Tuple) (was : Conns) (i : ℕ) (at : place_of t was ≡ Some i) (distinct : IsDistinct tuple_eq (keys_of was)) where

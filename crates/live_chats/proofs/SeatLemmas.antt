@@ -28,6 +28,7 @@ use Rattle.live_server.specs.declared.conn.Met.{Met}
 use Rattle.live_server.specs.declared.facts.Facts.{Facts}
 use Rattle.live_server.specs.Told.{Told}
 use Rattle.live_server.specs.Told.Told.{hears}
+use Rattle.live_server.specs.declared.measures.Measures.{Measures}
 use Rattle.live_server.proofs.TableLemmas.{conn_written, same, tuple_equivalence}
 use Rattle.live_chats.specs.Accounts.{Accounts, HasEndedStay, IsAway, SeatsWereTold, WereTold, account_of, accounts_of, number_in, pushed_at, seen_in}
 use Rattle.live_chats.specs.Hearing.{ChatOf, conn_in, hearing, nobody, silent}
@@ -332,17 +333,17 @@ module _ {R : Type 0} (limits : R → Limits) (s : Named R) (o : Chats) where
   }
 
 -- what a time makes of a connection
-module _ (tight : Bool) (now : ℕ) (time : now ≤ last_time) (t : Tuple) (d : Conn) where
+module _ (measures : Measures) (now : ℕ) (time : now ≤ last_time) (t : Tuple) (d : Conn) where
   least : min now last_time ≡ now
   least = omega (arith, time)
 
-  pub timed_conn : conn_in (hearing (Time tight now) (chat_of t d)).conn ≡ emptied (ticked tight now d)
+  pub timed_conn : conn_in (hearing (Time measures now) (chat_of t d)).conn ≡ emptied (ticked measures now d)
   unfolding hearing
-  timed_conn = ap (λ (n : ℕ). emptied (ticked tight n d)) least
+  timed_conn = ap (λ (n : ℕ). emptied (ticked measures n d)) least
 
-  pub timed_sent : (hearing (Time tight now) (chat_of t d)).sent ≡ sent_by t (ticked tight now d)
+  pub timed_sent : (hearing (Time measures now) (chat_of t d)).sent ≡ sent_by t (ticked measures now d)
   unfolding hearing
-  timed_sent = ap (λ (n : ℕ). sent_by t (ticked tight n d)) least
+  timed_sent = ap (λ (n : ℕ). sent_by t (ticked measures n d)) least
 
 module _ {R : Type 0} (limits : R → Limits) (s : Named R) (o : Chats) where
   pub good_but : (closes : Pass Element → Type 0) (pass : Option (Pass Element)) (q : Pass Element) (st : Stays ChatItem ChatOf) (es : List Entry) (i : ℕ) → IsGood limits s o closes pass st es → pass ≡ Some q → i < length es

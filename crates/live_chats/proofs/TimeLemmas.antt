@@ -10,11 +10,12 @@ use Rattle.sq_base.specs.declared.kinds.Tuple.{Tuple}
 use Rattle.live_server.specs.Acts.{emptied, is_over, sent_by, ticked}
 use Rattle.live_server.specs.Isolation.{kept_as, staying, IsTable}
 use Rattle.live_server.specs.Leaving.{is_leaving, shed_ends, without_leaving}
-use Rattle.live_server.specs.Serving.{ServerOf, is_tight, on_time}
+use Rattle.live_server.specs.Serving.{ServerOf, measures_of, on_time}
 use Rattle.live_server.specs.Table.{Conns, all_reached, tuple_eq, without_over}
 use Rattle.live_server.specs.declared.acting.Datagram.{Datagram}
 use Rattle.live_server.specs.declared.conn.Conn.{Conn}
 use Rattle.live_server.specs.declared.setting.Setting.{Setting}
+use Rattle.live_server.specs.declared.measures.Measures.{Measures}
 use Rattle.live_server.proofs.ShedLemmas.{look_shed}
 use Rattle.live_server.proofs.TickLemmas.{here_once, keys_reached, look_reached, staying_once, time_keeps_table}
 use Rattle.live_server.proofs.TableLemmas.{tuple_equivalence}
@@ -24,11 +25,11 @@ use Rattle.live_chats.specs.Ways.{leaving_of, telling_leave, telling_shed, telli
 use Rattle.live_chats.proofs.RunLemmas.{IsRight, behind, runs_append}
 
 -- what a look-up says of entries that the time came to
-abbrev after_time : Bool → ℕ → Conn → Option Conn
-after_time tight now c = kept_as (ticked tight now c)
+abbrev after_time : Measures → ℕ → Conn → Option Conn
+after_time measures now c = kept_as (ticked measures now c)
 
-abbrev told_of : Bool → ℕ → Tuple × Conn → List Datagram
-told_of tight now c = sent_by c.0 (ticked tight now c.1)
+abbrev told_of : Measures → ℕ → Tuple × Conn → List Datagram
+told_of measures now c = sent_by c.0 (ticked measures now c.1)
 
 -- those that are told have something to be told
 abbrev Agrees : Conns → Chats → Type 0
@@ -69,20 +70,20 @@ module _ (e : Tuple × Conn) (cs : Conns) (once : IsDistinct tuple_eq (keys_of (
       ap (λ (b : Bool). option_map_or f (lookup (tuple_eq q) cs) (cond b (f e.1) (all q))) (tuple_equivalence.symm e.0 q)
       ∙ turn_by all f q (tuple_eq q e.0) refl (lookup (tuple_eq q) cs) refl
 
-abbrev timed_run : Bool → ℕ → Conns → Chats → Run
-timed_run tight now cs all = record { chats = λ q. option_map_or (after_time tight now) (lookup (tuple_eq q) cs) (all q); sent = flat_map (told_of tight now) cs }
+abbrev timed_run : Measures → ℕ → Conns → Chats → Run
+timed_run measures now cs all = record { chats = λ q. option_map_or (after_time measures now) (lookup (tuple_eq q) cs) (all q); sent = flat_map (told_of measures now) cs }
 
-all_timed : (g : Setting) (tight : Bool) (now : ℕ) (cs : Conns) (all : Chats) → IsDistinct tuple_eq (keys_of cs) → Agrees cs all → runs g (telling_time tight now cs) all ≡ timed_run tight now cs all
-all_timed g tight now [] all once agrees = refl
-all_timed g tight now (e ∷ cs) all once agrees =
-    let step : Said → Run = λ s. behind s.sent (runs g (telling_time tight now cs) (with_chat e.0 s.conn all)) in
-    let first : Said = becoming e.0 (ticked tight now e.1) in
-    let next : Chats = with_chat e.0 (after_time tight now e.1) all in
-    let heard : time_said e.0 tight now (all e.0) ≡ first = ap (λ (o : Option Conn). time_said e.0 tight now o) (agrees_head e cs once all agrees) in
-    let rest : runs g (telling_time tight now cs) next ≡ timed_run tight now cs next =
-    all_timed g tight now cs next (IsDistinct-tail tuple_eq e.0 (keys_of cs) once) (agrees_tail e cs once all agrees (after_time tight now e.1)) in
-    let joined : ◌≡◌ {A = Run} (behind first.sent (timed_run tight now cs next)) (timed_run tight now (e ∷ cs) all) =
-    λ j. record { chats = λ q. turned e cs once all (after_time tight now) q j; sent = flat_map (told_of tight now) (e ∷ cs) } in
+all_timed : (g : Setting) (measures : Measures) (now : ℕ) (cs : Conns) (all : Chats) → IsDistinct tuple_eq (keys_of cs) → Agrees cs all → runs g (telling_time measures now cs) all ≡ timed_run measures now cs all
+all_timed g measures now [] all once agrees = refl
+all_timed g measures now (e ∷ cs) all once agrees =
+    let step : Said → Run = λ s. behind s.sent (runs g (telling_time measures now cs) (with_chat e.0 s.conn all)) in
+    let first : Said = becoming e.0 (ticked measures now e.1) in
+    let next : Chats = with_chat e.0 (after_time measures now e.1) all in
+    let heard : time_said e.0 measures now (all e.0) ≡ first = ap (λ (o : Option Conn). time_said e.0 measures now o) (agrees_head e cs once all agrees) in
+    let rest : runs g (telling_time measures now cs) next ≡ timed_run measures now cs next =
+    all_timed g measures now cs next (IsDistinct-tail tuple_eq e.0 (keys_of cs) once) (agrees_tail e cs once all agrees (after_time measures now e.1)) in
+    let joined : ◌≡◌ {A = Run} (behind first.sent (timed_run measures now cs next)) (timed_run measures now (e ∷ cs) all) =
+    λ j. record { chats = λ q. turned e cs once all (after_time measures now) q j; sent = flat_map (told_of measures now) (e ∷ cs) } in
     ap step heard ∙ ap (behind first.sent) rest ∙ joined
 
 abbrev gone : Conn → Option Conn
@@ -107,24 +108,24 @@ all_left g (e ∷ cs) all =
     ap (behind []) rest ∙ joined
 
 -- ---- what the table has then
-kept_by : (tight : Bool) (now : ℕ) (o : Option Conn) → option_filter (λ (c : Conn). not (is_over c)) (option_map (λ (c : Conn). emptied (ticked tight now c)) o) ≡ option_map_or (after_time tight now) o o
-kept_by tight now None = refl
-kept_by tight now (Some c) = ap (λ (b : Bool). cond (not b) (Some (emptied (ticked tight now c))) None) (emptied_over (ticked tight now c)) ∙ turn (is_over (ticked tight now c))
+kept_by : (measures : Measures) (now : ℕ) (o : Option Conn) → option_filter (λ (c : Conn). not (is_over c)) (option_map (λ (c : Conn). emptied (ticked measures now c)) o) ≡ option_map_or (after_time measures now) o o
+kept_by measures now None = refl
+kept_by measures now (Some c) = ap (λ (b : Bool). cond (not b) (Some (emptied (ticked measures now c))) None) (emptied_over (ticked measures now c)) ∙ turn (is_over (ticked measures now c))
   where
-    turn : (b : Bool) → cond (not b) (Some (emptied (ticked tight now c))) None ≡ cond b None (Some (emptied (ticked tight now c)))
+    turn : (b : Bool) → cond (not b) (Some (emptied (ticked measures now c))) None ≡ cond b None (Some (emptied (ticked measures now c)))
     turn true = refl
     turn false = refl
 
-module _ (tight : Bool) (now : ℕ) (cs : Conns) (once : IsDistinct tuple_eq (keys_of cs)) where
+module _ (measures : Measures) (now : ℕ) (cs : Conns) (once : IsDistinct tuple_eq (keys_of cs)) where
   abbrev here : Conns
-  here = without_over (all_reached tight now cs)
+  here = without_over (all_reached measures now cs)
 
-  look_here : (q : Tuple) → lookup (tuple_eq q) here ≡ option_map_or (after_time tight now) (lookup (tuple_eq q) cs) (lookup (tuple_eq q) cs)
+  look_here : (q : Tuple) → lookup (tuple_eq q) here ≡ option_map_or (after_time measures now) (lookup (tuple_eq q) cs) (lookup (tuple_eq q) cs)
   unfolding without_over
   look_here q =
-      lookup-filter-values tuple_equivalence (λ (c : Conn). not (is_over c)) q (all_reached tight now cs) (subst (IsDistinct tuple_eq) (sym (keys_reached tight now cs)) once)
-      ∙ ap (option_filter (λ (c : Conn). not (is_over c))) (look_reached tight now q cs)
-      ∙ kept_by tight now (lookup (tuple_eq q) cs)
+      lookup-filter-values tuple_equivalence (λ (c : Conn). not (is_over c)) q (all_reached measures now cs) (subst (IsDistinct tuple_eq) (sym (keys_reached measures now cs)) once)
+      ∙ ap (option_filter (λ (c : Conn). not (is_over c))) (look_reached measures now q cs)
+      ∙ kept_by measures now (lookup (tuple_eq q) cs)
 
 leaving_by : (p : Conn → Bool) (o : Option Conn) → option_filter (λ (c : Conn). not (p c)) o ≡ option_map_or gone (option_filter p o) o
 leaving_by p None = refl
@@ -151,20 +152,20 @@ shed_run g (Some t) all = refl
 pub time_right : (now : ℕ) (sv : ServerOf) → IsTable sv → IsRight sv (way_time now sv) (on_time now sv)
 unfolding way_time on_time
 time_right now sv table = record {
-  shows = runs_append sv.setting (telling_time (is_tight sv) now sv.conns ++ telling_leave out) (telling_shed ends) (chats_of sv)
+  shows = runs_append sv.setting (telling_time (measures_of sv) now sv.conns ++ telling_leave out) (telling_shed ends) (chats_of sv)
       ∙ ap third first ∙ ap (behind timed_sent) (shed_run sv.setting ends (λ q. lookup (tuple_eq q) (staying now sv))) ∙ last;
   setting = refl;
   table = time_keeps_table now sv table;
 }
   where
     out : Conns
-    out = leaving_of sv.setting now (without_over (all_reached (is_tight sv) now sv.conns))
+    out = leaving_of sv.setting now (without_over (all_reached (measures_of sv) now sv.conns))
 
     ends : Option Tuple
     ends = shed_ends sv.setting sv.turned (staying now sv)
 
     timed_sent : List Datagram
-    timed_sent = flat_map (told_of (is_tight sv) now) sv.conns
+    timed_sent = flat_map (told_of (measures_of sv) now) sv.conns
 
     second : Run → Run
     second r = behind r.sent (runs sv.setting (telling_leave out) r.chats)
@@ -172,24 +173,24 @@ time_right now sv table = record {
     third : Run → Run
     third r = behind r.sent (runs sv.setting (telling_shed ends) r.chats)
 
-    timed : runs sv.setting (telling_time (is_tight sv) now sv.conns) (chats_of sv) ≡ timed_run (is_tight sv) now sv.conns (chats_of sv)
-    timed = all_timed sv.setting (is_tight sv) now sv.conns (chats_of sv) table.once (λ q c look. look)
+    timed : runs sv.setting (telling_time (measures_of sv) now sv.conns) (chats_of sv) ≡ timed_run (measures_of sv) now sv.conns (chats_of sv)
+    timed = all_timed sv.setting (measures_of sv) now sv.conns (chats_of sv) table.once (λ q c look. look)
 
-    left : runs sv.setting (telling_leave out) (timed_run (is_tight sv) now sv.conns (chats_of sv)).chats ≡ left_run out (timed_run (is_tight sv) now sv.conns (chats_of sv)).chats
-    left = all_left sv.setting out (timed_run (is_tight sv) now sv.conns (chats_of sv)).chats
+    left : runs sv.setting (telling_leave out) (timed_run (measures_of sv) now sv.conns (chats_of sv)).chats ≡ left_run out (timed_run (measures_of sv) now sv.conns (chats_of sv)).chats
+    left = all_left sv.setting out (timed_run (measures_of sv) now sv.conns (chats_of sv)).chats
 
-    looks : (q : Tuple) → option_map_or gone (lookup (tuple_eq q) out) (option_map_or (after_time (is_tight sv) now) (lookup (tuple_eq q) sv.conns) (lookup (tuple_eq q) sv.conns))
+    looks : (q : Tuple) → option_map_or gone (lookup (tuple_eq q) out) (option_map_or (after_time (measures_of sv) now) (lookup (tuple_eq q) sv.conns) (lookup (tuple_eq q) sv.conns))
         ≡ lookup (tuple_eq q) (staying now sv)
     looks q =
-        ap (λ (o : Option Conn). option_map_or gone (lookup (tuple_eq q) out) o) (sym (look_here (is_tight sv) now sv.conns table.once q))
-        ∙ sym (look_leaving sv.setting now (without_over (all_reached (is_tight sv) now sv.conns)) (here_once (is_tight sv) now sv.conns table.once) q)
+        ap (λ (o : Option Conn). option_map_or gone (lookup (tuple_eq q) out) o) (sym (look_here (measures_of sv) now sv.conns table.once q))
+        ∙ sym (look_leaving sv.setting now (without_over (all_reached (measures_of sv) now sv.conns)) (here_once (measures_of sv) now sv.conns table.once) q)
 
     -- who stays by every other rule
-    staid : ◌≡◌ {A = Run} (behind timed_sent (left_run out (timed_run (is_tight sv) now sv.conns (chats_of sv)).chats)) (record { chats = λ q. lookup (tuple_eq q) (staying now sv); sent = timed_sent })
+    staid : ◌≡◌ {A = Run} (behind timed_sent (left_run out (timed_run (measures_of sv) now sv.conns (chats_of sv)).chats)) (record { chats = λ q. lookup (tuple_eq q) (staying now sv); sent = timed_sent })
     staid = λ j. record { chats = λ q. looks q j; sent = append-nil timed_sent j }
 
-    first : ◌≡◌ {A = Run} (runs sv.setting (telling_time (is_tight sv) now sv.conns ++ telling_leave out) (chats_of sv)) (record { chats = λ q. lookup (tuple_eq q) (staying now sv); sent = timed_sent })
-    first = runs_append sv.setting (telling_time (is_tight sv) now sv.conns) (telling_leave out) (chats_of sv) ∙ ap second timed ∙ ap (behind timed_sent) left ∙ staid
+    first : ◌≡◌ {A = Run} (runs sv.setting (telling_time (measures_of sv) now sv.conns ++ telling_leave out) (chats_of sv)) (record { chats = λ q. lookup (tuple_eq q) (staying now sv); sent = timed_sent })
+    first = runs_append sv.setting (telling_time (measures_of sv) now sv.conns) (telling_leave out) (chats_of sv) ∙ ap second timed ∙ ap (behind timed_sent) left ∙ staid
 
     last : ◌≡◌ {A = Run} (behind timed_sent (record { chats = λ q. cond (option_map_or (λ t. tuple_eq t q) ends false) None (lookup (tuple_eq q) (staying now sv)); sent = [] }))
         (record { chats = chats_of (on_time now sv).server; sent = (on_time now sv).sent })

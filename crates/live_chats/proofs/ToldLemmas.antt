@@ -1,5 +1,5 @@
 -- The seats of a table to which the time comes at once: where it is told, where something is learnt, and where those leave of which nothing was heard.
-use Rattle.std.proofs.Common.{◌≡◌, ◌≢◌, ℕ, zero, suc, ◌+◌, ◌<◌, ◌≤◌, ◌⊎◌, inl, inr, Bool, true, false, eqb, Option, None, Some, IfSome, IfNone, List, [], ◌∷◌, ◌++◌, length, map, take, slice_get, refl, sym, ap, subst, ◌∙◌, add-one, arith}
+use Rattle.std.proofs.Common.{◌≡◌, ◌≢◌, ℕ, zero, suc, ◌+◌, ◌<◌, ◌≤◌, ◌⊎◌, inl, inr, true, false, eqb, Option, None, Some, IfSome, IfNone, List, [], ◌∷◌, ◌++◌, length, map, take, slice_get, refl, sym, ap, subst, ◌∙◌, add-one, arith}
 use Rattle.std.specs.List.{IsDistinct, flat_map}
 use Rattle.std.specs.Map.{keys_of}
 use Rattle.std.specs.Option.{option_map}
@@ -23,6 +23,7 @@ use Rattle.turn_gate.specs.History.{Begins as Grows}
 use Rattle.turn_gate.specs.Passes.{number, seen}
 use Rattle.squeue_state.specs.Naming.{setting_of}
 use Rattle.live_server.specs.Told.Told.{hears}
+use Rattle.live_server.specs.declared.measures.Measures.{Measures}
 use Rattle.live_chats.specs.Accounts.{SeatsWereTold, accounts_of, pushed_at}
 use Rattle.live_chats.proofs.LivedLemmas.{each_heard, one_more_each}
 use Rattle.live_chats.specs.Hearing.{ChatOf, conn_in, hearing}
@@ -59,14 +60,14 @@ places_next es i e at = ap (λ (n : ℕ). places_in (take n es)) (add-one i) ∙
     by (x ∷ xs) zero h = ap (λ (y : Entry). y.1.place ∷ []) (same_Some _ _ h)
     by (x ∷ xs) (suc n) h = ap (λ (l : List ℕ). x.1.place ∷ l) (by xs n h)
 
-pub told_at_first : (tight : Bool) (now : ℕ) (a : St) (es : List Entry) → AreTold tight now 0 a a es
-told_at_first tight now a es = record { opens = λ d o. o; told = λ k e at lt. absurd (omega (arith, lt)); others = λ k e at _. refl; pushed = λ k e at lt. absurd (omega (arith, lt)); unpushed = λ k e at _. refl }
+pub told_at_first : (measures : Measures) (now : ℕ) (a : St) (es : List Entry) → AreTold measures now 0 a a es
+told_at_first measures now a es = record { opens = λ d o. o; told = λ k e at lt. absurd (omega (arith, lt)); others = λ k e at _. refl; pushed = λ k e at lt. absurd (omega (arith, lt)); unpushed = λ k e at _. refl }
 
-module _ (tight : Bool) (now : ℕ) (a b : St) (es : List Entry) (seated : AllSeated a es) (distinct : IsDistinct tuple_eq (keys_of es)) where
+module _ (measures : Measures) (now : ℕ) (a b : St) (es : List Entry) (seated : AllSeated a es) (distinct : IsDistinct tuple_eq (keys_of es)) where
   apart : (k i : ℕ) (f e : Entry) → slice_get es k ≡ Some f → slice_get es i ≡ Some e → k ≢ i → f.1.place ≢ e.1.place
   apart = seats_apart a es distinct (λ k e at. (seated k e at).ends)
 
-  module _ (i : ℕ) (e : Entry) (at : slice_get es i ≡ Some e) (c : St) (so_far : AreTold tight now i a b es) (is_open : IsOpen c e.1.place) (kept : KeptBut e.1.place b c) where
+  module _ (i : ℕ) (e : Entry) (at : slice_get es i ≡ Some e) (c : St) (so_far : AreTold measures now i a b es) (is_open : IsOpen c e.1.place) (kept : KeptBut e.1.place b c) where
     opens_on : (d : ℕ) → IsOpen a d → IsOpen c d
     opens_on d o = elim (eqb_tells d e.1.place) [
       | inl same ↦ subst (IsOpen c) (sym same.1) is_open
@@ -74,7 +75,7 @@ module _ (tight : Bool) (now : ℕ) (a b : St) (es : List Entry) (seated : AllSe
     ]
 
     -- at one seat more
-    pub told_next : chat_at c e.1.place ≡ hearing (Time tight now) (chat_at b e.1.place) → pushed_at c e.1.place ≡ pushed_at b e.1.place + 1 → AreTold tight now (i + 1) a c es
+    pub told_next : chat_at c e.1.place ≡ hearing (Time measures now) (chat_at b e.1.place) → pushed_at c e.1.place ≡ pushed_at b e.1.place + 1 → AreTold measures now (i + 1) a c es
     told_next one more = record {
       opens = opens_on;
       told = tells;
@@ -83,10 +84,10 @@ module _ (tight : Bool) (now : ℕ) (a b : St) (es : List Entry) (seated : AllSe
       unpushed = λ k f there past. kept.pushed f.1.place (apart k i f e there at (λ z. omega (arith, z, past))) ∙ so_far.unpushed k f there (omega (arith, past));
     }
       where
-        tells : (k : ℕ) (f : Entry) → slice_get es k ≡ Some f → k < i + 1 → chat_at c f.1.place ≡ hearing (Time tight now) (chat_at a f.1.place)
+        tells : (k : ℕ) (f : Entry) → slice_get es k ≡ Some f → k < i + 1 → chat_at c f.1.place ≡ hearing (Time measures now) (chat_at a f.1.place)
         tells k f there lt = elim (eqb_tells k i) [
           | inl same ↦ (let its : f ≡ e = same_entry es i e f at (ap (slice_get es) (sym same.1) ∙ there) in
-              subst (λ (x : Entry). chat_at c x.1.place ≡ hearing (Time tight now) (chat_at a x.1.place)) (sym its) (one ∙ ap (hearing (Time tight now)) (so_far.others i e at (omega arith))))
+              subst (λ (x : Entry). chat_at c x.1.place ≡ hearing (Time measures now) (chat_at a x.1.place)) (sym its) (one ∙ ap (hearing (Time measures now)) (so_far.others i e at (omega arith))))
           | inr ne ↦ kept.chats f.1.place (apart k i f e there at ne.1) ∙ so_far.told k f there (omega (arith, lt, ne.1))
         ]
 
@@ -98,7 +99,7 @@ module _ (tight : Bool) (now : ℕ) (a b : St) (es : List Entry) (seated : AllSe
         ]
 
     -- it wasn't taken
-    pub told_still : chat_at c e.1.place ≡ chat_at b e.1.place → pushed_at c e.1.place ≡ pushed_at b e.1.place → AreTold tight now i a c es
+    pub told_still : chat_at c e.1.place ≡ chat_at b e.1.place → pushed_at c e.1.place ≡ pushed_at b e.1.place → AreTold measures now i a c es
     told_still one none = record {
       opens = opens_on;
       told = λ k f there lt. same k f there ∙ so_far.told k f there lt;
@@ -120,7 +121,7 @@ module _ (tight : Bool) (now : ℕ) (a b : St) (es : List Entry) (seated : AllSe
         ]
 
   -- and then no place is told anything
-  pub told_kept_on : (i : ℕ) (c : St) → AreTold tight now i a b es → KeptOpen b c → AreTold tight now i a c es
+  pub told_kept_on : (i : ℕ) (c : St) → AreTold measures now i a b es → KeptOpen b c → AreTold measures now i a c es
   told_kept_on i c so_far kept =
       let same = λ (k : ℕ) (f : Entry) (there : slice_get es k ≡ Some f). kept.chats f.1.place (so_far.opens f.1.place (seated k f there).is_open) in
       let count = λ (k : ℕ) (f : Entry) (there : slice_get es k ≡ Some f). kept.pushed f.1.place (so_far.opens f.1.place (seated k f there).is_open) in
@@ -202,42 +203,42 @@ learnt_next os es i one here next is lt so_far some none = by one is some none �
         ∙ learnt_some os es i h at.0.0 at.0.1 is_some (ap (λ (l : List Entry). slice_get l i) (sym so_far) ∙ at.1)
 
 -- ---- what is known of the seats then
-module _ (tight : Bool) (now : ℕ) (time : now ≤ last_time) (a b : St) (es : List Entry) (i : ℕ) (seated : AllSeated a es) (told : AreTold tight now i a b es) where
+module _ (measures : Measures) (now : ℕ) (time : now ≤ last_time) (a b : St) (es : List Entry) (i : ℕ) (seated : AllSeated a es) (told : AreTold measures now i a b es) where
   ends_then : (k : ℕ) (f : Entry) → slice_get es k ≡ Some f → (chat_at b f.1.place).ends ≡ f.0
   ends_then k f there = elim (leb_tells i k) [
     | inl past ↦ ap (λ (c : ChatOf). c.ends) (told.others k f there past.1) ∙ (seated k f there).ends
-    | inr lt ↦ ap (λ (c : ChatOf). c.ends) (told.told k f there lt.1) ∙ time_keeps_ends tight now (chat_at a f.1.place) ∙ (seated k f there).ends
+    | inr lt ↦ ap (λ (c : ChatOf). c.ends) (told.told k f there lt.1) ∙ time_keeps_ends measures now (chat_at a f.1.place) ∙ (seated k f there).ends
   ]
 
   -- what one is to whom it was told
-  told_chat : (k : ℕ) (f : Entry) → slice_get es k ≡ Some f → k < i → chat_at b f.1.place ≡ hearing (Time tight now) (chat_of f.0 (conn_of_seat a f).1)
+  told_chat : (k : ℕ) (f : Entry) → slice_get es k ≡ Some f → k < i → chat_at b f.1.place ≡ hearing (Time measures now) (chat_of f.0 (conn_of_seat a f).1)
   told_chat k f there lt =
       let its = seated k f there in
-      told.told k f there lt ∙ heard_of (Time tight now) (chat_at a f.1.place) f.0 (conn_of_seat a f).1 its.ends (its.its_conn ∙ ap Some (ap conn_in (sym its.its_conn))) (chat_here a f.1.place)
+      told.told k f there lt ∙ heard_of (Time measures now) (chat_at a f.1.place) f.0 (conn_of_seat a f).1 its.ends (its.its_conn ∙ ap Some (ap conn_in (sym its.its_conn))) (chat_here a f.1.place)
 
-  pub told_conn : (k : ℕ) (f : Entry) → slice_get es k ≡ Some f → k < i → conn_of_seat b f ≡ (f.0, emptied (ticked tight now (conn_of_seat a f).1))
-  told_conn k f there lt = ap (λ (c : Conn). (f.0, c)) (ap (λ (c : ChatOf). conn_in c.conn) (told_chat k f there lt) ∙ timed_conn tight now time f.0 (conn_of_seat a f).1)
+  pub told_conn : (k : ℕ) (f : Entry) → slice_get es k ≡ Some f → k < i → conn_of_seat b f ≡ (f.0, emptied (ticked measures now (conn_of_seat a f).1))
+  told_conn k f there lt = ap (λ (c : Conn). (f.0, c)) (ap (λ (c : ChatOf). conn_in c.conn) (told_chat k f there lt) ∙ timed_conn measures now time f.0 (conn_of_seat a f).1)
 
-  told_sent : (k : ℕ) (f : Entry) → slice_get es k ≡ Some f → k < i → (chat_at b f.1.place).sent ≡ sent_by f.0 (ticked tight now (conn_of_seat a f).1)
-  told_sent k f there lt = ap (λ (c : ChatOf). c.sent) (told_chat k f there lt) ∙ timed_sent tight now time f.0 (conn_of_seat a f).1
+  told_sent : (k : ℕ) (f : Entry) → slice_get es k ≡ Some f → k < i → (chat_at b f.1.place).sent ≡ sent_by f.0 (ticked measures now (conn_of_seat a f).1)
+  told_sent k f there lt = ap (λ (c : ChatOf). c.sent) (told_chat k f there lt) ∙ timed_sent measures now time f.0 (conn_of_seat a f).1
 
   other_conn : (k : ℕ) (f : Entry) → slice_get es k ≡ Some f → i ≤ k → conn_of_seat b f ≡ conn_of_seat a f
   other_conn k f there past = ap (λ (c : ChatOf). (f.0, conn_in c.conn)) (told.others k f there past)
 
   -- each is what it was, or what the time makes of it
-  pub spoilt : (k : ℕ) (f : Entry) → slice_get es k ≡ Some f → (conn_of_seat b f ≡ conn_of_seat a f) ⊎ (conn_of_seat b f ≡ (f.0, emptied (ticked tight now (conn_of_seat a f).1)))
+  pub spoilt : (k : ℕ) (f : Entry) → slice_get es k ≡ Some f → (conn_of_seat b f ≡ conn_of_seat a f) ⊎ (conn_of_seat b f ≡ (f.0, emptied (ticked measures now (conn_of_seat a f).1)))
   spoilt k f there = elim (leb_tells i k) [ inl past ↦ inl (other_conn k f there past.1) | inr lt ↦ inr (told_conn k f there lt.1) ]
 
 -- where it was told at all, the table is what the time makes of it
-pub all_told_conns : (tight : Bool) (now : ℕ) (a b : St) (es : List Entry) → ((k : ℕ) (f : Entry) → slice_get es k ≡ Some f → conn_of_seat b f ≡ (f.0, emptied (ticked tight now (conn_of_seat a f).1)))
-    → conns_of b es ≡ all_reached tight now (conns_of a es)
-all_told_conns tight now a b [] h = refl
-all_told_conns tight now a b (e ∷ es) h = λ j. h zero e refl j ∷ all_told_conns tight now a b es (λ k f at. h (suc k) f at) j
+pub all_told_conns : (measures : Measures) (now : ℕ) (a b : St) (es : List Entry) → ((k : ℕ) (f : Entry) → slice_get es k ≡ Some f → conn_of_seat b f ≡ (f.0, emptied (ticked measures now (conn_of_seat a f).1)))
+    → conns_of b es ≡ all_reached measures now (conns_of a es)
+all_told_conns measures now a b [] h = refl
+all_told_conns measures now a b (e ∷ es) h = λ j. h zero e refl j ∷ all_told_conns measures now a b es (λ k f at. h (suc k) f at) j
 
-pub all_told_sent : (tight : Bool) (now : ℕ) (a b : St) (es : List Entry) → ((k : ℕ) (f : Entry) → slice_get es k ≡ Some f → (chat_at b f.1.place).sent ≡ sent_by f.0 (ticked tight now (conn_of_seat a f).1))
-    → flat_map (λ (e : Entry). (chat_at b e.1.place).sent) es ≡ flat_map (λ (c : Tuple × Conn). sent_by c.0 (ticked tight now c.1)) (conns_of a es)
-all_told_sent tight now a b [] h = refl
-all_told_sent tight now a b (e ∷ es) h = λ j. h zero e refl j ++ all_told_sent tight now a b es (λ k f at. h (suc k) f at) j
+pub all_told_sent : (measures : Measures) (now : ℕ) (a b : St) (es : List Entry) → ((k : ℕ) (f : Entry) → slice_get es k ≡ Some f → (chat_at b f.1.place).sent ≡ sent_by f.0 (ticked measures now (conn_of_seat a f).1))
+    → flat_map (λ (e : Entry). (chat_at b e.1.place).sent) es ≡ flat_map (λ (c : Tuple × Conn). sent_by c.0 (ticked measures now c.1)) (conns_of a es)
+all_told_sent measures now a b [] h = refl
+all_told_sent measures now a b (e ∷ es) h = λ j. h zero e refl j ++ all_told_sent measures now a b es (λ k f at. h (suc k) f at) j
 
 took : (es : List Entry) (i k : ℕ) (e : Entry) → slice_get (take i es) k ≡ Some e → k < i
 took es zero k e at = absurd (none-some _ at)
@@ -284,32 +285,32 @@ module _ (os hs : List (Option Heard)) (n : ℕ) (next : length os < n → hs �
   marked_all all = elim (leb_tells n (length os)) [ inl past ↦ past.1 | inr lt ↦ absurd (all (length os) (marked_next lt.1)) ]
 
 -- the time was told to the first so many of these seats, these answered, and what was heard of them is marked
-pub record IsHeard (tight : Bool) (now : ℕ) (a b : St) (es : List Entry) (os hs : List (Option Heard)) (before after : List Datagram) : Type 0 where
+pub record IsHeard (measures : Measures) (now : ℕ) (a b : St) (es : List Entry) (os hs : List (Option Heard)) (before after : List Datagram) : Type 0 where
   pub time : now ≤ last_time
   pub count : ℕ
   pub few : count ≤ length es
   pub seated : AllSeated a es
-  pub told : AreTold tight now count a b es
+  pub told : AreTold measures now count a b es
   pub answers : AreAnswers (map (chat_at b) (places_in (take count es))) os before after
   pub next : length os < length es → hs ≡ os ++ None ∷ []
   pub none : length es ≤ length os → hs ≡ os
 
 -- so it is behind a tell and a settle
-pub is_heard : (tight : Bool) (now : ℕ) (a mid b : St) (es : List Entry) (os hs : List (Option Heard)) (before after : List Datagram) (i : ℕ) (ts : List ℕ) → now ≤ last_time → i ≤ length es → AllSeated a es
-    → IsDistinct tuple_eq (keys_of es) → AreTold tight now i a mid es → KeptOpen mid b → ts ≡ places_in (take i es) → AreAnswers (map (chat_at b) ts) os before after
-    → (length os < length es → hs ≡ os ++ None ∷ []) → (length es ≤ length os → hs ≡ os) → IsHeard tight now a b es os hs before after
-is_heard tight now a mid b es os hs before after i ts time few seated distinct told kept touched answers next none = record {
+pub is_heard : (measures : Measures) (now : ℕ) (a mid b : St) (es : List Entry) (os hs : List (Option Heard)) (before after : List Datagram) (i : ℕ) (ts : List ℕ) → now ≤ last_time → i ≤ length es → AllSeated a es
+    → IsDistinct tuple_eq (keys_of es) → AreTold measures now i a mid es → KeptOpen mid b → ts ≡ places_in (take i es) → AreAnswers (map (chat_at b) ts) os before after
+    → (length os < length es → hs ≡ os ++ None ∷ []) → (length es ≤ length os → hs ≡ os) → IsHeard measures now a b es os hs before after
+is_heard measures now a mid b es os hs before after i ts time few seated distinct told kept touched answers next none = record {
   time = time;
   count = i;
   few = few;
   seated = seated;
-  told = told_kept_on tight now a mid es seated distinct i b told kept;
+  told = told_kept_on measures now a mid es seated distinct i b told kept;
   answers = subst (λ (l : List ℕ). AreAnswers (map (chat_at b) l) os before after) touched answers;
   next = next;
   none = none;
 }
 
-module _ (tight : Bool) (now : ℕ) (a b : St) (es : List Entry) (os hs : List (Option Heard)) (before after : List Datagram) (x : IsHeard tight now a b es os hs before after) where
+module _ (measures : Measures) (now : ℕ) (a b : St) (es : List Entry) (os hs : List (Option Heard)) (before after : List Datagram) (x : IsHeard measures now a b es os hs before after) where
   many : length os ≡ x.count
   many = answers_count b (take x.count es) os before after x.answers ∙ length-take-le x.count es x.few
 
@@ -325,7 +326,7 @@ module _ (tight : Bool) (now : ℕ) (a b : St) (es : List Entry) (os hs : List (
       let at_place : chat_at b e.1.place ≡ chat_at b f.1.place = ap (chat_at b) l.place in
       record {
         is_open = subst (IsOpen b) (sym l.place) (x.told.opens f.1.place (x.seated k f there).is_open);
-        ends = ap (λ (c : ChatOf). c.ends) at_place ∙ ends_then tight now x.time a b es x.count x.seated x.told k f there ∙ sym l.ends;
+        ends = ap (λ (c : ChatOf). c.ends) at_place ∙ ends_then measures now x.time a b es x.count x.seated x.told k f there ∙ sym l.ends;
         conn = answer.0;
         its_conn = ap (λ (c : ChatOf). c.conn) at_place ∙ answer.1;
         facts = l.facts h is ∙ answer.2;
@@ -372,7 +373,7 @@ module _ (tight : Bool) (now : ℕ) (a b : St) (es : List Entry) (os hs : List (
   pub heard_ends : (k : ℕ) (e : Entry) → slice_get (all_learnt hs es) k ≡ Some e → (chat_at b e.1.place).ends ≡ e.0
   heard_ends k e at =
       let was = learnt_at hs es k e at in
-      ap (λ (p : ℕ). (chat_at b p).ends) was.2.place ∙ ends_then tight now x.time a b es x.count x.seated x.told k was.0 was.1 ∙ sym was.2.ends
+      ap (λ (p : ℕ). (chat_at b p).ends) was.2.place ∙ ends_then measures now x.time a b es x.count x.seated x.told k was.0 was.1 ∙ sym was.2.ends
 
   -- where something was heard of each
   module _ (all : (k : ℕ) → slice_get hs k ≢ Some None) where
@@ -382,18 +383,18 @@ module _ (tight : Bool) (now : ℕ) (a b : St) (es : List Entry) (os hs : List (
     same_os : hs ≡ os
     same_os = x.none (marked_all os hs (length es) x.next x.none all)
 
-    pub all_conns : conns_of b (all_learnt hs es) ≡ all_reached tight now (conns_of a es)
-    all_conns = learnt_conns b hs es ∙ all_told_conns tight now a b es (λ k f there. told_conn tight now x.time a b es x.count x.seated x.told k f there (omega (arith, slice_get_within es k f there, all_told)))
+    pub all_conns : conns_of b (all_learnt hs es) ≡ all_reached measures now (conns_of a es)
+    all_conns = learnt_conns b hs es ∙ all_told_conns measures now a b es (λ k f there. told_conn measures now x.time a b es x.count x.seated x.told k f there (omega (arith, slice_get_within es k f there, all_told)))
 
-    pub all_sent : after ≡ before ++ flat_map (λ (c : Tuple × Conn). sent_by c.0 (ticked tight now c.1)) (conns_of a es)
+    pub all_sent : after ≡ before ++ flat_map (λ (c : Tuple × Conn). sent_by c.0 (ticked measures now c.1)) (conns_of a es)
     all_sent =
         answers_sent b (take x.count es) os before after x.answers (λ k is. all k (ap (λ (l : List (Option Heard)). slice_get l k) same_os ∙ is))
         ∙ ap (λ (l : List Datagram). before ++ l) (ap (flat_map (λ (e : Entry). (chat_at b e.1.place).sent)) (take_all x.count es all_told)
-        ∙ all_told_sent tight now a b es (λ k f there. told_sent tight now x.time a b es x.count x.seated x.told k f there (omega (arith, slice_get_within es k f there, all_told))))
+        ∙ all_told_sent measures now a b es (λ k f there. told_sent measures now x.time a b es x.count x.seated x.told k f there (omega (arith, slice_get_within es k f there, all_told))))
 
   -- where some left
   pub some_spoilt : (c : St) (fs : List Entry) → ((k : ℕ) (e : Entry) → slice_get fs k ≡ Some e → (j : ℕ) × (f : Entry) × (slice_get (all_learnt hs es) j ≡ Some f) × (conn_of_seat c e ≡ conn_of_seat b f))
-      → Spoils tight now (conns_of a es) (conns_of c fs)
+      → Spoils measures now (conns_of a es) (conns_of c fs)
   some_spoilt c fs were k t d at =
       let here = mapped c fs k (t, d) at in
       let one = were k here.0 here.1 in
@@ -402,7 +403,7 @@ module _ (tight : Bool) (now : ℕ) (a b : St) (es : List Entry) (os hs : List (
         one.0,
         (conn_of_seat a was.0).1,
         conns_entry a es one.0 was.0 was.1 ∙ ap (λ (x : Tuple). Some (x, (conn_of_seat a was.0).1)) (sym (ap (λ (y : Tuple × Conn). y.0) its)),
-        elim (spoilt tight now x.time a b es x.count x.seated x.told one.0 was.0 was.1) [
+        elim (spoilt measures now x.time a b es x.count x.seated x.told one.0 was.0 was.1) [
           | inl same ↦ inl (ap (λ (y : Tuple × Conn). y.1) (its ∙ same))
           | inr timed ↦ inr (ap (λ (y : Tuple × Conn). y.1) (its ∙ timed))
         ],
@@ -511,14 +512,14 @@ more_accounts a b [] h = refl
 more_accounts a b (e ∷ es) h = λ j. (e.0, h zero e refl j) ∷ more_accounts a b es (λ k f at. h (suc k) f at) j
 
 -- where something was heard of each
-module _ (tight : Bool) (now : ℕ) (a b : St) (es : List Entry) (os hs : List (Option Heard)) (before after : List Datagram) (x : IsHeard tight now a b es os hs before after) where
+module _ (measures : Measures) (now : ℕ) (a b : St) (es : List Entry) (os hs : List (Option Heard)) (before after : List Datagram) (x : IsHeard measures now a b es os hs before after) where
   pub all_frames_told : {R : Type 0} (limits : R → Limits) (s : Named R) (p q : Pass Element) → IsDistinct tuple_eq (keys_of es) → ((k : ℕ) → slice_get hs k ≢ Some None)
       → Grows (seen p) (seen q) → SeatsWereTold limits s p q a b es (all_learnt hs es) (map hears (keys_of es))
   all_frames_told limits s p q distinct all grows =
       let most = marked_all os hs (length es) x.next x.none all in
       let accounts : accounts_of b (all_learnt hs es) ≡ one_more_each (accounts_of a es) =
       learnt_accounts b hs es
-      ∙ more_accounts a b es (λ k e at. x.told.pushed k e at (omega (arith, slice_get_within es k e at, most, many tight now a b es os hs before after x))) in
+      ∙ more_accounts a b es (λ k e at. x.told.pushed k e at (omega (arith, slice_get_within es k e at, most, many measures now a b es os hs before after x))) in
       let keys = accounts_keys a es in
       subst (λ (ks : List Tuple). SeatsWereTold limits s p q a b es (all_learnt hs es) (map hears ks)) keys
       (each_heard (setting_of limits s.given) (number p) (seen p) (seen q) (accounts_of a es) (accounts_of b (all_learnt hs es)) (subst (IsDistinct tuple_eq) (sym keys) distinct)

@@ -1,5 +1,5 @@
 -- What the table does with a segment, as steps.
-use Rattle.std.proofs.Common.{◌≡◌, ℕ, ◌<◌, Bool, true, false, cond, nat_lt, List, [], ◌∷◌, ◌++◌, length, Option, None, Some, refl, sym, ap, arith, not}
+use Rattle.std.proofs.Common.{◌≡◌, ℕ, ◌<◌, Bool, true, false, cond, nat_lt, List, [], ◌∷◌, ◌++◌, length, Option, None, Some, bytes_eq, codes, refl, sym, ap, arith, not}
 use Rattle.std.specs.Map.{lookup}
 use Rattle.std.specs.Option.{option_map_or}
 use Rattle.std.proofs.lemmas.Bool.{and_parts}
@@ -13,20 +13,28 @@ use Rattle.segment_codec.specs.declared.packet.Packet.TheVariants as packet
 use Rattle.segment_codec.specs.declared.packet.Seg.{Seg}
 use Rattle.sq_base.specs.declared.kinds.Link.TheVariants.{RawIp}
 use Rattle.sq_base.specs.declared.kinds.Tuple.{Tuple}
+use Rattle.udp_codec.specs.ReadAgain.{text_in as ordered_text}
+use Rattle.udp_codec.specs.declared.datagram.Udp.{Udp}
 use Rattle.icmp_codec.specs.EchoRequest.{PingOf, ping_in}
-use Rattle.live_server.specs.Acts.{emptied, is_over, judged, reached, sent_by}
-use Rattle.live_server.specs.Addresses.{is_for_us}
+use Rattle.icmp_codec.specs.TooLong.{too_long_in}
+use Rattle.icmp_codec.specs.declared.too_long.TooLong.{TooLong}
+use Rattle.live_server.specs.Acts.{emptied, is_over, judged, reached, sent_by, closed, no_measures}
+use Rattle.live_server.specs.Addresses.{is_for_us, is_to_us}
 use Rattle.live_server.specs.Counting.{more}
 use Rattle.live_server.specs.Initial.{number_for}
 use Rattle.live_server.specs.Isolation.{conn_of, IsTable}
+use Rattle.live_server.specs.PathMtu.{path_told, shortens, text_in_mtu}
 use Rattle.live_server.specs.Services.{is_served_at}
-use Rattle.live_server.specs.Serving.{Outcome, ServerOf, addressed, becomes, comes, echoes, fits, gives_way, goes_on, has_place, heeded, heeded_text, heeds, holding, is_echoed, is_waiting, judging, limited, makes_place, noting, numbered, on_datagram, on_other, on_packet, on_segment, opens as opening, overfull, passes_over, refused, sends_nothing, sends_of, served, takes_free, takes_place, time_to, turns_away, yielding, yields, yields_at}
+use Rattle.live_server.specs.Serving.{Outcome, ServerOf, addressed, becomes, comes, counting_path, echoes, fits, gives_way, goes_on, has_place, heeded, heeded_text, heeds, holding, is_echoed, is_waiting, judging, limited, makes_place, noting, numbered, on_datagram, on_other, on_packet, on_segment, on_too_long, opens as opening, overfull, passes_over, refused, sends_nothing, sends_of, served, shortens_at, takes_free, takes_place, time_to, turns_away, yielding, yields, yields_at, admits, obeys, on_protocol, refuses}
+use Rattle.live_server.specs.Orders.{order_in}
 use Rattle.live_server.specs.Table.{conn_at, place_of, tuple_eq, IsNew}
 use Rattle.live_server.specs.declared.conn.Conn.{Conn}
+use Rattle.live_server.specs.declared.conn.Met.{Met}
+use Rattle.live_server.specs.declared.conn.Met.TheVariants.{Gone, Judged as judges}
 use Rattle.live_server.proofs.TableLemmas.{distinct_appended, distinct_replaced, distinct_without, first_at, length_replaced, length_without, look_appended, look_replaced, look_without, new_from_place, new_without, within_at}
 use Rattle.live_server.proofs.PlaceLemmas.{conn_looked}
-use Rattle.live_chats.specs.Chats.{Item, Step, becoming, fresh, leaves, opens, said, segment, segment_said, sends, tells, time, time_said}
-use Rattle.live_chats.specs.Ways.{way_addressed, way_comes, way_datagram, way_goes_on, way_heeds, way_opens, way_other, way_packet, way_segment, way_takes, way_time_to, way_yielding, way_yields}
+use Rattle.live_chats.specs.Chats.{Item, Step, becoming, fresh, leaves, opens, path, path_said, said, segment, segment_said, sends, tells, time, time_said}
+use Rattle.live_chats.specs.Ways.{way_addressed, way_comes, way_datagram, way_goes_on, way_heeds, way_opens, way_other, way_packet, way_segment, way_takes, way_time_to, way_too_long, way_yielding, way_yields, way_admits, way_protocol}
 use Rattle.live_chats.proofs.RunLemmas.{IsRight, chosen_right, moved_right, nothing_right, quiet_right, sent_shows, then_right, told_shows}
 
 -- ---- the connection at a place becomes another one
@@ -44,13 +52,13 @@ module _ (i : ℕ) (t : Tuple) (c : Conn) (sv : ServerOf) (at : place_of t sv.co
 
 -- ---- the time comes to one
 pub time_to_right : (now : ℕ) (t : Tuple) (sv : ServerOf) → IsTable sv → IsRight sv (way_time_to now t sv) (time_to now t sv)
-unfolding time_to
+unfolding time_to closed
 time_to_right now t sv table = by (place_of t sv.conns) refl
   where
     by : (r : Option ℕ) → place_of t sv.conns ≡ r
-        → IsRight sv (option_map_or (λ (place : ℕ). tells t (time false now) ∷ []) r []) (option_map_or (λ (place : ℕ). becomes place t (reached now (conn_at place sv.conns)) sv) r (sends_nothing sv))
+        → IsRight sv (option_map_or (λ (place : ℕ). tells t (time no_measures now) ∷ []) r []) (option_map_or (λ (place : ℕ). becomes place t (reached now (conn_at place sv.conns)) sv) r (sends_nothing sv))
     by None at = nothing_right sv table
-    by (Some i) at = becomes_right i t (reached now (conn_at i sv.conns)) sv at table (time false now) (ap (λ (o : Option Conn). time_said t false now o) (conn_looked t sv.conns i at))
+    by (Some i) at = becomes_right i t (reached now (conn_at i sv.conns)) sv at table (time no_measures now) (ap (λ (o : Option Conn). time_said t no_measures now o) (conn_looked t sv.conns i at))
 
 -- ---- one that goes on
 pub goes_on_right : (now : ℕ) (s : Seg) (text : List ℕ) (sv : ServerOf) (i : ℕ) → place_of (tuple_of s) sv.conns ≡ Some i → IsTable sv → IsRight sv (way_goes_on now s text sv) (goes_on now s text i sv)
@@ -144,19 +152,31 @@ takes_right t c sv new table = by (has_place sv) refl
         }
     by false e = record { shows = refl; setting = refl; table = record { once = table.once; bounded = table.bounded } }
 
+-- a reset goes out
+pub refuses_right : (now : ℕ) (s : Seg) (sv : ServerOf) → IsTable sv → IsRight sv (sends (refused now s) ∷ []) (refuses now s sv)
+refuses_right now s sv table =
+    let refusing : ServerOf = (refuses now s sv).server in
+    record { shows = sent_shows sv refusing (refused now s) refl; setting = refl; table = quiet_right sv refusing refl refl table }
+
 module _ (now : ℕ) (s : Seg) (text : List ℕ) (sv : ServerOf) (table : IsTable sv) where
   abbrev pub new_one : Conn
   new_one = served now s text sv (fresh sv.setting now s)
 
-  pub opens_right : IsNew (tuple_of s) sv.conns → IsRight sv (way_opens now s text sv) (opening now s text sv)
-  unfolding way_opens opening
-  opens_right new =
+  admits_right : IsNew (tuple_of s) sv.conns → IsRight sv (way_admits now s text sv) (admits now s text sv)
+  unfolding way_admits admits
+  admits_right new =
       let t = tuple_of s in
       let room : ServerOf = makes_place sv in
       let left = yielding_right sv.waiting sv table in
       chosen_right (is_over new_one) sv (sends (sent_by t new_one) ∷ []) (way_yielding sv.waiting sv ++ way_takes t new_one room) (sends_of t new_one sv) (takes_place t new_one room)
       (record { shows = sent_shows sv sv (sent_by t new_one) refl; setting = refl; table = table })
       (then_right sv (way_yielding sv.waiting sv) (way_takes t new_one room) (sends_nothing room) (takes_place t new_one room) left (takes_right t new_one room (yielding_new t sv.waiting sv new) left.table))
+
+  pub opens_right : IsNew (tuple_of s) sv.conns → IsRight sv (way_opens now s text sv) (opening now s text sv)
+  unfolding way_opens opening
+  opens_right new =
+      chosen_right sv.draining sv (sends (refused now s) ∷ []) (way_admits now s text sv) (refuses now s sv) (admits now s text sv)
+      (refuses_right now s sv table) (admits_right new)
 
   pub comes_right : IsRight sv (way_comes now s text sv) (comes now s text sv)
   unfolding way_comes comes
@@ -196,15 +216,48 @@ pub addressed_right : (now : ℕ) (s : Seg) (text : List ℕ) (sv : ServerOf) �
 unfolding way_addressed addressed
 addressed_right now s text sv table =
     let astray : ServerOf = record sv { counts = record sv.counts { astray = more 1 sv.counts.astray } } in
-    let refusing : ServerOf = record sv { counts = record sv.counts { refused = more 1 sv.counts.refused } } in
     let s1 : Seg = limited sv.setting.segment s in
-    let elsewhere : Outcome = record { server = refusing; sent = refused now s } in
+    let elsewhere : Outcome = refuses now s sv in
     chosen_right (not (is_for_us sv.setting s)) sv [] (cond (is_served_at sv.setting.ports s.dst_port) (way_segment now s1 text sv) (sends (refused now s) ∷ []))
     (sends_nothing astray) (cond (is_served_at sv.setting.ports s.dst_port) (on_segment now s1 text sv) elsewhere)
     (quiet_counts sv astray refl refl table)
     (chosen_right (is_served_at sv.setting.ports s.dst_port) sv (way_segment now s1 text sv) (sends (refused now s) ∷ []) (on_segment now s1 text sv) elsewhere
     (segment_right now s1 text sv table)
-    (record { shows = sent_shows sv refusing (refused now s) refl; setting = refl; table = quiet_right sv refusing refl refl table }))
+    (refuses_right now s sv table))
+
+-- what a router says comes to the connection at a place
+module _ (x : TooLong) (sv : ServerOf) (i : ℕ) (at : place_of x.ends sv.conns ≡ Some i) (table : IsTable sv) where
+  abbrev its_path : Item
+  its_path = path x.seq (text_in_mtu x.mtu)
+
+  abbrev its_conn : Conn
+  its_conn = path_told x.seq (text_in_mtu x.mtu) (conn_at i sv.conns)
+
+  counted_right : (m : Met) → IsRight sv (tells x.ends its_path ∷ []) (becomes i x.ends its_conn (counting_path m sv))
+  counted_right Gone =
+      let sv1 : ServerOf = counting_path Gone sv in
+      moved_right sv1 sv refl refl (tells x.ends its_path ∷ []) (becomes i x.ends its_conn sv1)
+      (becomes_right i x.ends its_conn sv1 at (record { once = table.once; bounded = table.bounded }) its_path
+      (ap (λ (o : Option Conn). path_said x.ends x.seq (text_in_mtu x.mtu) o) (conn_looked x.ends sv.conns i at)))
+  counted_right (judges j) =
+      let sv1 : ServerOf = counting_path (judges j) sv in
+      moved_right sv1 sv refl refl (tells x.ends its_path ∷ []) (becomes i x.ends its_conn sv1)
+      (becomes_right i x.ends its_conn sv1 at (record { once = table.once; bounded = table.bounded }) its_path
+      (ap (λ (o : Option Conn). path_said x.ends x.seq (text_in_mtu x.mtu) o) (conn_looked x.ends sv.conns i at)))
+
+  shortens_right : IsRight sv (tells x.ends its_path ∷ []) (shortens_at x i sv)
+  unfolding shortens_at
+  shortens_right = counted_right (shortens x.seq (text_in_mtu x.mtu) x.ends (conn_at i sv.conns)).met
+
+too_long_right : (x : TooLong) (sv : ServerOf) → IsTable sv → IsRight sv (way_too_long x sv) (on_too_long x sv)
+unfolding way_too_long on_too_long
+too_long_right x sv table =
+    chosen_right (is_to_us sv.setting x.src x.dst) sv _ [] _ (passes_over sv) (by (place_of x.ends sv.conns) refl) (quiet_counts sv _ refl refl table)
+  where
+    by : (r : Option ℕ) → place_of x.ends sv.conns ≡ r
+        → IsRight sv (option_map_or (λ (place : ℕ). tells x.ends (path x.seq (text_in_mtu x.mtu)) ∷ []) r []) (option_map_or (λ (place : ℕ). shortens_at x place sv) r (passes_over sv))
+    by None at = quiet_counts sv _ refl refl table
+    by (Some i) at = shortens_right x sv i at table
 
 other_right : (now : ℕ) (p : Option PingOf) (sv : ServerOf) → IsTable sv → IsRight sv (way_other now p sv) (on_other now p sv)
 unfolding way_other on_other
@@ -215,10 +268,35 @@ other_right now (Some p) sv table =
     (record { shows = sent_shows sv echoing (echoes now p sv).sent refl; setting = refl; table = quiet_right sv echoing refl refl table })
     (quiet_counts sv _ refl refl table)
 
+obeyed_right : (text : List ℕ) (sv : ServerOf) → IsTable sv → IsRight sv [] (obeys text sv)
+unfolding obeys
+obeyed_right text sv table =
+    by (bytes_eq text (codes "drain"))
+  where
+    drains : ServerOf
+    drains = record sv { draining = true }
+
+    by : (b : Bool) → IsRight sv [] (cond b (sends_nothing drains) (passes_over sv))
+    by true = quiet_counts sv drains refl refl table
+    by false = quiet_counts sv (passes_over sv).server refl refl table
+
+protocol_right : (now : ℕ) (body : List ℕ) (sv : ServerOf) → IsTable sv → IsRight sv (way_protocol now body sv) (on_protocol now body sv)
+unfolding way_protocol on_protocol
+protocol_right now body sv table = by (order_in sv.setting body)
+  where
+    by : (r : Option Udp) → IsRight sv (option_map_or (λ (u : Udp). []) r (way_other now (ping_in body) sv)) (option_map_or (λ (u : Udp). obeys (ordered_text u body) sv) r (on_other now (ping_in body) sv))
+    by None = other_right now (ping_in body) sv table
+    by (Some u) = obeyed_right (ordered_text u body) sv table
+
 pub packet_right : (now : ℕ) (body : List ℕ) (p : Packet) (sv : ServerOf) → IsTable sv → IsRight sv (way_packet now body p sv) (on_packet now body p sv)
 unfolding way_packet on_packet
 packet_right now body (packet.Segment s) sv table = addressed_right now s (text_in s body) sv table
-packet_right now body packet.Other sv table = other_right now (ping_in body) sv table
+packet_right now body packet.Other sv table = either (too_long_in body)
+  where
+    either : (r : Option TooLong)
+        → IsRight sv (option_map_or (λ x. way_too_long x sv) r (way_protocol now body sv)) (option_map_or (λ x. on_too_long x sv) r (on_protocol now body sv))
+    either None = protocol_right now body sv table
+    either (Some x) = too_long_right x sv table
 packet_right now body packet.Fragment sv table = quiet_counts sv _ refl refl table
 packet_right now body packet.Cut sv table = quiet_counts sv _ refl refl table
 packet_right now body (packet.Malformed why) sv table = quiet_counts sv _ refl refl table

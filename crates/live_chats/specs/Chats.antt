@@ -1,15 +1,17 @@
 -- Chats: what each connection is told, and what it says. A table is then the chats of all ends, and what is done to them, step by step.
-use Rattle.std.specs.Prelude.{ℕ, Bool, Option, None, Some, List, [], ◌∷◌, ◌++◌, if◌then◌else◌}
+use Rattle.std.specs.Prelude.{ℕ, Option, None, Some, List, [], ◌∷◌, ◌++◌, if◌then◌else◌}
 use Rattle.segment_codec.specs.declared.packet.Seg.{Seg}
 use Rattle.sq_base.specs.declared.kinds.Tuple.{Tuple}
 use Rattle.live_server.specs.Acts.{emptied, new_conn, receives, sent_by, ticked}
 use Rattle.live_server.specs.Isolation.{conn_of, kept_as}
+use Rattle.live_server.specs.PathMtu.{path_told}
 use Rattle.live_server.specs.Services.{service_at}
 use Rattle.live_server.specs.Serving.{ServerOf}
 use Rattle.live_server.specs.Table.{tuple_eq}
 use Rattle.live_server.specs.declared.acting.Datagram.{Datagram}
 use Rattle.live_server.specs.declared.conn.Conn.{Conn}
 use Rattle.live_server.specs.declared.setting.Setting.{Setting}
+use Rattle.live_server.specs.declared.measures.Measures.{Measures}
 
 pub data Item : Type 0 where
   -- a connection begins, and what it sent goes out
@@ -18,8 +20,10 @@ pub data Item : Type 0 where
   leaves : Item
   -- a segment comes, with the initial sequence number for one that opens
   segment : ℕ → ℕ → Seg → List ℕ → Item
-  -- the time comes, at a tick where memory for text may be tight
-  time : Bool → ℕ → Item
+  -- a router says that the segment of a number was longer than the next path takes
+  path : ℕ → ℕ → Item
+  -- the time comes, at a tick with what is asked of all
+  time : Measures → ℕ → Item
 
 -- what becomes of a connection, where there is one, and what it sends
 pub record Said : Type 0 where
@@ -39,15 +43,20 @@ abbrev pub segment_said : Setting → Tuple → ℕ → ℕ → Seg → List ℕ
 segment_said g t now iss s text None = record { conn = None; sent = sent_by t (receives now iss s text (fresh g now s)) }
 segment_said g t now iss s text (Some c) = becoming t (receives now iss s text c)
 
-abbrev pub time_said : Tuple → Bool → ℕ → Option Conn → Said
-time_said t tight now None = record { conn = None; sent = [] }
-time_said t tight now (Some c) = becoming t (ticked tight now c)
+abbrev pub path_said : Tuple → ℕ → ℕ → Option Conn → Said
+path_said t seq most None = record { conn = None; sent = [] }
+path_said t seq most (Some c) = becoming t (path_told seq most c)
+
+abbrev pub time_said : Tuple → Measures → ℕ → Option Conn → Said
+time_said t measures now None = record { conn = None; sent = [] }
+time_said t measures now (Some c) = becoming t (ticked measures now c)
 
 abbrev pub said : Setting → Tuple → Item → Option Conn → Said
 said g t (opens c) o = record { conn = Some (emptied c); sent = sent_by t c }
 said g t leaves o = record { conn = None; sent = [] }
 said g t (segment now iss s text) o = segment_said g t now iss s text o
-said g t (time tight now) o = time_said t tight now o
+said g t (path seq most) o = path_said t seq most o
+said g t (time measures now) o = time_said t measures now o
 
 -- what stands at each two ends
 abbrev pub Chats : Type 0

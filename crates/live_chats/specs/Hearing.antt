@@ -4,11 +4,13 @@ use Rattle.segment_codec.specs.declared.packet.Seg.{Seg}
 use Rattle.sq_base.specs.declared.kinds.Tuple.{Tuple}
 use Rattle.tcb_machine.specs.Limits.{last_time}
 use Rattle.live_server.specs.Acts.{Meeting, emptied, meets, no_conn, sent_by, ticked}
+use Rattle.live_server.specs.PathMtu.{shortens}
 use Rattle.live_server.specs.declared.acting.Datagram.{Datagram}
 use Rattle.live_server.specs.declared.conn.Conn.{Conn}
 use Rattle.live_server.specs.declared.conn.Met.{Met}
+use Rattle.live_server.specs.declared.measures.Measures.{Measures}
 use Rattle.live_chats.specs.declared.item.ChatItem.{ChatItem}
-use Rattle.live_chats.specs.declared.item.ChatItem.TheVariants.{Meets, Opens, Time}
+use Rattle.live_chats.specs.declared.item.ChatItem.TheVariants.{Meets, Opens, Shortens, Time}
 
 -- the two ends; the connection, where one began, also when it is over; what was sent at the last item, and, where that was a segment, what
 -- became of it; and whether memory was missing
@@ -31,7 +33,7 @@ nobody = record { ends = no_ends; conn = None; sent = []; met = None; lost = fal
 abbrev pub silent : ChatOf → ChatOf
 silent c = record c { sent = []; met = None }
 
--- a segment has come to its connection, or the time has
+-- a segment has come to its connection, or what a router says of one, or the time has
 abbrev pub met_by : Meeting → ChatOf → ChatOf
 met_by m c = record c { conn = Some (emptied m.conn); sent = m.sent; met = Some m.met }
 
@@ -42,21 +44,27 @@ abbrev pub meeting : ℕ → ℕ → Seg → List ℕ → Option Conn → ChatOf
 meeting now iss s text None c = silent c
 meeting now iss s text (Some d) c = met_by (meets now iss s text c.ends d) c
 
-abbrev pub timing : Bool → ℕ → Option Conn → ChatOf → ChatOf
-timing tight now None c = silent c
-timing tight now (Some d) c = timed (ticked tight now d) c
+abbrev pub shortening : ℕ → ℕ → Option Conn → ChatOf → ChatOf
+shortening seq most None c = silent c
+shortening seq most (Some d) c = met_by (shortens seq most c.ends d) c
+
+abbrev pub timing : Measures → ℕ → Option Conn → ChatOf → ChatOf
+timing measures now None c = silent c
+timing measures now (Some d) c = timed (ticked measures now d) c
 
 -- whether a connection begins by it
 abbrev pub is_opening : ChatItem → Bool
 is_opening (Opens ends conn) = true
 is_opening (Meets now iss seg text) = false
-is_opening (Time tight now) = false
+is_opening (Shortens seq most) = false
+is_opening (Time measures now) = false
 
 -- What an item makes of a chat. One that begins a connection makes the same of every chat, also of one that was lost
 unfoldable pub hearing : ChatItem → ChatOf → ChatOf
 hearing (Opens ends conn) c = record { ends = ends; conn = Some conn.value; sent = []; met = None; lost = false }
 hearing (Meets now iss seg text) c = meeting (min now last_time) iss seg text.items c.conn c
-hearing (Time tight now) c = timing tight (min now last_time) c.conn c
+hearing (Shortens seq most) c = shortening seq most c.conn c
+hearing (Time measures now) c = timing measures (min now last_time) c.conn c
 
 -- one after another
 abbrev pub hearing_all : List ChatItem → ChatOf → ChatOf

@@ -20,6 +20,7 @@ use Rattle.live_server.specs.declared.acting.Datagram.{Datagram}
 use Rattle.live_server.specs.declared.conn.Conn.{Conn}
 use Rattle.live_server.specs.declared.conn.Met.{Met}
 use Rattle.live_server.specs.declared.facts.Facts.{Facts}
+use Rattle.live_server.specs.declared.measures.Measures.{Measures}
 use Rattle.live_chats.specs.Accounts.{pushed_at}
 use Rattle.live_chats.specs.Hearing.{ChatOf, conn_in, hearing, hearing_all, nobody}
 use Rattle.live_chats.specs.Telling.{IsFirst, Tells}
@@ -108,14 +109,14 @@ goes Over f = is_over_by f
 goes (Due setting now taken) f = is_leaving_by setting.now now taken f
 
 -- what a time leaves where memory was missing: some connections are gone, and to some of the others the time didn't come
-abbrev pub Spoils : Bool → ℕ → Conns → Conns → Type 0
-Spoils tight now was is = (k : ℕ) (t : Tuple) (c : Conn) → slice_get is k ≡ Some (t, c)
-    → (j : ℕ) × (d : Conn) × (slice_get was j ≡ Some (t, d)) × ((c ≡ d) ⊎ (c ≡ emptied (ticked tight now d)))
+abbrev pub Spoils : Measures → ℕ → Conns → Conns → Type 0
+Spoils measures now was is = (k : ℕ) (t : Tuple) (c : Conn) → slice_get is k ≡ Some (t, c)
+    → (j : ℕ) × (d : Conn) × (slice_get was j ≡ Some (t, d)) × ((c ≡ d) ⊎ (c ≡ emptied (ticked measures now d)))
 
 -- the time is told at the first so many of these seats, and at no other one
-pub record AreTold (tight : Bool) (now i : ℕ) (a b : Stays ChatItem ChatOf) (es : List (Tuple × Seat)) : Type 0 where
+pub record AreTold (measures : Measures) (now i : ℕ) (a b : Stays ChatItem ChatOf) (es : List (Tuple × Seat)) : Type 0 where
   pub opens : (d : ℕ) → IsOpen a d → IsOpen b d
-  pub told : (k : ℕ) (e : Tuple × Seat) → slice_get es k ≡ Some e → k < i → chat_at b e.1.place ≡ hearing (Time tight now) (chat_at a e.1.place)
+  pub told : (k : ℕ) (e : Tuple × Seat) → slice_get es k ≡ Some e → k < i → chat_at b e.1.place ≡ hearing (Time measures now) (chat_at a e.1.place)
   pub others : (k : ℕ) (e : Tuple × Seat) → slice_get es k ≡ Some e → i ≤ k → chat_at b e.1.place ≡ chat_at a e.1.place
   pub pushed : (k : ℕ) (e : Tuple × Seat) → slice_get es k ≡ Some e → k < i → pushed_at b e.1.place ≡ pushed_at a e.1.place + 1
   pub unpushed : (k : ℕ) (e : Tuple × Seat) → slice_get es k ≡ Some e → i ≤ k → pushed_at b e.1.place ≡ pushed_at a e.1.place

@@ -1,5 +1,5 @@
 -- Ways: what the table does with each frame, as steps. Its rules are those of `Serving`.
-use Rattle.std.specs.Prelude.{◌≡◌, ℕ, ◌==◌, not, Bool, true, false, List, [], ◌∷◌, ◌++◌, length, map, filter, Option, None, Some, if◌then◌else◌}
+use Rattle.std.specs.Prelude.{◌≡◌, ℕ, ◌==◌, not, true, List, [], ◌∷◌, ◌++◌, length, map, filter, Option, None, Some, if◌then◌else◌}
 use Rattle.std.specs.Option.{option_map_or}
 use Rattle.segment_codec.specs.Packet.{packet_in}
 use Rattle.segment_codec.specs.Refusal.{tuple_of}
@@ -10,19 +10,24 @@ use Rattle.segment_codec.specs.declared.packet.Seg.{Seg}
 use Rattle.sq_base.specs.declared.kinds.Link.TheVariants.{RawIp}
 use Rattle.sq_base.specs.declared.kinds.Tuple.{Tuple}
 use Rattle.icmp_codec.specs.EchoRequest.{PingOf, ping_in}
-use Rattle.live_server.specs.Acts.{is_over, sent_by}
-use Rattle.live_server.specs.Addresses.{is_for_us}
+use Rattle.icmp_codec.specs.TooLong.{too_long_in}
+use Rattle.icmp_codec.specs.declared.too_long.TooLong.{TooLong}
+use Rattle.live_server.specs.Acts.{is_over, sent_by, no_measures}
+use Rattle.live_server.specs.Addresses.{is_for_us, is_to_us}
 use Rattle.live_server.specs.Frames.{FrameOf, on_frame, serves_frames}
 use Rattle.live_server.specs.Initial.{number_for}
 use Rattle.live_server.specs.Isolation.{IsTable, staying}
 use Rattle.live_server.specs.Leaving.{is_leaving, shed_ends}
+use Rattle.live_server.specs.PathMtu.{text_in_mtu}
+use Rattle.live_server.specs.Orders.{order_in}
 use Rattle.live_server.specs.Services.{is_served_at}
-use Rattle.live_server.specs.Serving.{Outcome, ServerOf, echoes, has_place, heeded, heeded_text, is_echoed, is_tight, is_waiting, limited, makes_place}
+use Rattle.live_server.specs.Serving.{Outcome, ServerOf, echoes, has_place, heeded, heeded_text, is_echoed, is_waiting, limited, makes_place, measures_of}
 use Rattle.live_server.specs.Serving.{noting, numbered, refused, served, time_to, yields}
 use Rattle.live_server.specs.Table.{Conns, all_reached, conn_at, place_of, without_over}
 use Rattle.live_server.specs.declared.conn.Conn.{Conn}
 use Rattle.live_server.specs.declared.setting.Setting.{Setting}
-use Rattle.live_chats.specs.Chats.{Step, chats_of, fresh, leaves, opens, runs, segment, sends, tells, time}
+use Rattle.live_chats.specs.Chats.{Step, chats_of, fresh, leaves, opens, path, runs, segment, sends, tells, time}
+use Rattle.live_server.specs.declared.measures.Measures.{Measures}
 
 -- the connection of two ends gives way, where it is half open and was opened with this number
 abbrev pub way_yields : Tuple × ℕ → ServerOf → List Step
@@ -36,10 +41,13 @@ way_yielding (w ∷ ws) sv =
 abbrev pub way_takes : Tuple → Conn → ServerOf → List Step
 way_takes t c sv = if has_place sv then tells t (opens (numbered sv c)) ∷ [] else []
 
-unfoldable pub way_opens : ℕ → Seg → List ℕ → ServerOf → List Step
-way_opens now s text sv =
+unfoldable pub way_admits : ℕ → Seg → List ℕ → ServerOf → List Step
+way_admits now s text sv =
     let c = served now s text sv (fresh sv.setting now s) in
     if is_over c then sends (sent_by (tuple_of s) c) ∷ [] else way_yielding sv.waiting sv ++ way_takes (tuple_of s) c (makes_place sv)
+
+unfoldable pub way_opens : ℕ → Seg → List ℕ → ServerOf → List Step
+way_opens now s text sv = if sv.draining then sends (refused now s) ∷ [] else way_admits now s text sv
 
 abbrev pub way_goes_on : ℕ → Seg → List ℕ → ServerOf → List Step
 way_goes_on now s text sv = tells (tuple_of s) (segment now (number_for sv.secret now s) s text) ∷ []
@@ -51,7 +59,7 @@ unfoldable pub way_heeds : ℕ → Seg → List ℕ → ServerOf → List Step
 way_heeds now s text sv = way_comes now (heeded s text sv) (heeded_text text sv) (noting text sv)
 
 abbrev pub way_time_to : ℕ → Tuple → ServerOf → List Step
-way_time_to now t sv = option_map_or (λ place. tells t (time false now) ∷ []) (place_of t sv.conns) []
+way_time_to now t sv = option_map_or (λ place. tells t (time no_measures now) ∷ []) (place_of t sv.conns) []
 
 unfoldable pub way_segment : ℕ → Seg → List ℕ → ServerOf → List Step
 way_segment now s text sv = way_time_to now (tuple_of s) sv ++ way_heeds now s text (time_to now (tuple_of s) sv).server
@@ -62,13 +70,20 @@ way_addressed now s text sv =
     else if is_served_at sv.setting.ports s.dst_port then way_segment now (limited sv.setting.segment s) text sv
     else sends (refused now s) ∷ []
 
+unfoldable pub way_too_long : TooLong → ServerOf → List Step
+way_too_long x sv =
+    if is_to_us sv.setting x.src x.dst then option_map_or (λ place. tells x.ends (path x.seq (text_in_mtu x.mtu)) ∷ []) (place_of x.ends sv.conns) [] else []
+
 unfoldable pub way_other : ℕ → Option PingOf → ServerOf → List Step
 way_other now None sv = []
 way_other now (Some p) sv = if is_echoed p sv then sends (echoes now p sv).sent ∷ [] else []
 
+unfoldable pub way_protocol : ℕ → List ℕ → ServerOf → List Step
+way_protocol now body sv = option_map_or (λ u. []) (order_in sv.setting body) (way_other now (ping_in body) sv)
+
 unfoldable pub way_packet : ℕ → List ℕ → Packet → ServerOf → List Step
 way_packet now body (packet.Segment s) sv = way_addressed now s (text_in s body) sv
-way_packet now body packet.Other sv = way_other now (ping_in body) sv
+way_packet now body packet.Other sv = option_map_or (λ x. way_too_long x sv) (too_long_in body) (way_protocol now body sv)
 way_packet now body packet.Fragment sv = []
 way_packet now body packet.Cut sv = []
 way_packet now body (packet.Malformed why) sv = []
@@ -78,8 +93,8 @@ unfoldable pub way_datagram : ℕ → List ℕ → ServerOf → List Step
 way_datagram now body sv = way_packet now body (packet_in RawIp body true) sv
 
 -- each of these is told something
-abbrev pub telling_time : Bool → ℕ → Conns → List Step
-telling_time tight now cs = map (λ c. tells c.0 (time tight now)) cs
+abbrev pub telling_time : Measures → ℕ → Conns → List Step
+telling_time measures now cs = map (λ c. tells c.0 (time measures now)) cs
 
 abbrev pub telling_leave : Conns → List Step
 telling_leave cs = map (λ c. tells c.0 leaves) cs
@@ -95,7 +110,7 @@ telling_shed (Some t) = tells t leaves ∷ []
 
 unfoldable pub way_time : ℕ → ServerOf → List Step
 way_time now sv =
-    (telling_time (is_tight sv) now sv.conns ++ telling_leave (leaving_of sv.setting now (without_over (all_reached (is_tight sv) now sv.conns))))
+    (telling_time (measures_of sv) now sv.conns ++ telling_leave (leaving_of sv.setting now (without_over (all_reached (measures_of sv) now sv.conns))))
     ++ telling_shed (shed_ends sv.setting sv.turned (staying now sv))
 
 abbrev pub way_of : FrameOf → ServerOf → List Step

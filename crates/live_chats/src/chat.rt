@@ -3,10 +3,10 @@
 ghost use Rattle.std.specs.Prelude.{◌≡◌, ◌≤◌, ◌||◌, [], None, OnErr, OnOk, false, not};
 ghost use Rattle.std.specs.Option.{option_copied};
 ghost use Rattle.tcb_machine.specs.Limits.{last_time};
-ghost use Rattle.live_chats.specs.Hearing.{Hears, hearing, is_opening, losing, meeting, nobody, timing};
+ghost use Rattle.live_chats.specs.Hearing.{Hears, hearing, is_opening, losing, meeting, nobody, shortening, timing};
 
 use crate::item::ChatItem;
-use live_server::{Conn, Datagram, Met};
+use live_server::{Conn, Datagram, Measures, Met};
 use segment_codec::Seg;
 use sq_base::{Addr, Tuple};
 use std::alloc::{AllocError, Global};
@@ -15,7 +15,7 @@ use std::mem::replace;
 use tcb_machine::LAST_TIME;
 
 /// A chat: the two ends of the connection that began last, that connection, also when it is over, what was sent at the last item and, where
-/// that was a segment, what became of it; and whether memory was missing.
+/// that was a segment or told of one, what became of it; and whether memory was missing.
 #[derive(Drop)]
 pub struct Chat {
     ends: Tuple,
@@ -130,7 +130,8 @@ impl Chat {
                 seg,
                 text,
             } => self.meet(alloc, now.min(LAST_TIME), iss, &seg, text.as_slice()),
-            ChatItem::Time { tight, now } => self.time(alloc, tight, now.min(LAST_TIME)),
+            ChatItem::Shortens { seq, most } => self.shorten(alloc, seq, most),
+            ChatItem::Time { measures, now } => self.time(alloc, measures, now.min(LAST_TIME)),
         }
     }
 
@@ -159,19 +160,36 @@ impl Chat {
         Ok(())
     }
 
-    // The time comes.
-    fn time(&mut self, alloc: Global, tight: bool, now: u64) -> Result<(), AllocError>
-        requires time { now ≤ last_time }
+    // A router says that a segment was too long for its path.
+    fn shorten(&mut self, alloc: Global, seq: u32, most: u16) -> Result<(), AllocError>
         requires sent { self.old.sent ≡ [] }
         requires met { self.old.met ≡ None }
-        ensures hears { OnOk result (self.new ≡ timing tight now self.old.conn self.old) }
+        ensures hears { OnOk result (self.new ≡ shortening seq most self.old.conn self.old) }
         ensures ends { OnErr result (self.new.ends ≡ self.old.ends) }
     {
         let Some(mut conn) = replace(&mut self.conn, None) else {
             return Ok(());
         };
         let ends = self.ends;
-        conn.tick(alloc, tight, now, &ends, &mut self.sent)?;
+        let met = conn.shorten(alloc, seq, most, &ends, &mut self.sent)?;
+        self.conn = Some(conn);
+        self.met = Some(met);
+        Ok(())
+    }
+
+    // The time comes.
+    fn time(&mut self, alloc: Global, measures: Measures, now: u64) -> Result<(), AllocError>
+        requires time { now ≤ last_time }
+        requires sent { self.old.sent ≡ [] }
+        requires met { self.old.met ≡ None }
+        ensures hears { OnOk result (self.new ≡ timing measures now self.old.conn self.old) }
+        ensures ends { OnErr result (self.new.ends ≡ self.old.ends) }
+    {
+        let Some(mut conn) = replace(&mut self.conn, None) else {
+            return Ok(());
+        };
+        let ends = self.ends;
+        conn.tick(alloc, measures, now, &ends, &mut self.sent)?;
         self.conn = Some(conn);
         Ok(())
     }

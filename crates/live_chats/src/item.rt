@@ -3,7 +3,7 @@
 ghost use Rattle.std.specs.Prelude.{◌≡◌};
 ghost use Rattle.live_chats.specs.Hearing.{is_opening};
 
-use live_server::Conn;
+use live_server::{Conn, Measures};
 use segment_codec::Seg;
 use sq_base::Tuple;
 
@@ -22,9 +22,14 @@ pub enum ChatItem {
         seg: Seg,
         text: Vec<u8>,
     },
-    /// The time comes at a tick. Where the memory for text is tight, what its connection holds behind a gap is forgotten.
+    /// A router says that it dropped the segment with a number, since the next path takes no more than `most` bytes of text in one.
+    Shortens {
+        seq: u32,
+        most: u16,
+    },
+    /// The time comes at a tick, with what is asked of each connection.
     Time {
-        tight: bool,
+        measures: Measures,
         now: u64,
     },
 }

@@ -28,7 +28,7 @@ use crate::item::ChatItem;
 use crate::line::Line;
 use crate::renewing::renew_all;
 use crate::seats::{Table, close_seat, learn, seat_at};
-use live_server::Datagram;
+use live_server::{Datagram, Measures};
 use placed_parts::Places;
 use squeue_state::Pass;
 use squeue_streams::Streams;
@@ -37,7 +37,7 @@ use std::collections::VecDeque;
 use std::sync::Wait;
 use stream_stays::Stays;
 
-/// The time comes to each connection, which forgets text behind a gap where memory is tight, and what they send goes out in the order of
+/// The time comes to each connection, which does what is asked of all, and what they send goes out in the order of
 /// their seats. It answers whether it came to all. Else memory was missing: the connections of which nothing was heard leave.
 pub(crate) fn reach_each<H: Wait + Drop, W: Wait>(
     line: &Line<'_, Places<Streams<Chats, H>>, W>,
@@ -46,7 +46,7 @@ pub(crate) fn reach_each<H: Wait + Drop, W: Wait>(
     stays: &mut Stays<ChatItem, Chat>,
     seats: &mut Table,
     free: &mut VecDeque<u32>,
-    tight: bool,
+    measures: Measures,
     now: u64,
     out: &mut Vec<Datagram>,
 ) -> (Pass, bool)
@@ -54,15 +54,15 @@ pub(crate) fn reach_each<H: Wait + Drop, W: Wait>(
     requires time { now ≤ last_time }
     ensures seats { HasSeats limits_of line.now.squeue.now (origin_of line.now.squeue.now.given.first) result.0 stays.new seats.new.entries }
     ensures number { number result.0 ≡ number pass }
-    ensures table { result.1 ≡ true → conns_of stays.new seats.new.entries ≡ all_reached tight now (conns_of stays.old seats.old.entries) }
-    ensures sent { result.1 ≡ true → out.new.items ≡ out.old.items ++ flat_map (λ c. sent_by c.0 (ticked tight now c.1)) (conns_of stays.old seats.old.entries) }
+    ensures table { result.1 ≡ true → conns_of stays.new seats.new.entries ≡ all_reached measures now (conns_of stays.old seats.old.entries) }
+    ensures sent { result.1 ≡ true → out.new.items ≡ out.old.items ++ flat_map (λ c. sent_by c.0 (ticked measures now c.1)) (conns_of stays.old seats.old.entries) }
     ensures told { result.1 ≡ true
         → SeatsWereTold limits_of line.now.squeue.now pass result.0 stays.old stays.new seats.old.entries
         seats.new.entries (map hears (keys_of seats.old.entries)) }
-    ensures lost { result.1 ≡ false → Spoils tight now (conns_of stays.old seats.old.entries) (conns_of stays.new seats.new.entries) }
+    ensures lost { result.1 ≡ false → Spoils measures now (conns_of stays.old seats.old.entries) (conns_of stays.new seats.new.entries) }
 {
     let pass = renew_all(line, alloc, pass, stays, seats);
-    reach_now(line, alloc, pass, stays, seats, free, tight, now, out)
+    reach_now(line, alloc, pass, stays, seats, free, measures, now, out)
 }
 
 /// The same in the stays that they have.
@@ -73,7 +73,7 @@ fn reach_now<H: Wait + Drop, W: Wait>(
     stays: &mut Stays<ChatItem, Chat>,
     seats: &mut Table,
     free: &mut VecDeque<u32>,
-    tight: bool,
+    measures: Measures,
     now: u64,
     out: &mut Vec<Datagram>,
 ) -> (Pass, bool)
@@ -81,12 +81,12 @@ fn reach_now<H: Wait + Drop, W: Wait>(
     requires time { now ≤ last_time }
     ensures seats { HasSeats limits_of line.now.squeue.now (origin_of line.now.squeue.now.given.first) result.0 stays.new seats.new.entries }
     ensures number { number result.0 ≡ number pass }
-    ensures table { result.1 ≡ true → conns_of stays.new seats.new.entries ≡ all_reached tight now (conns_of stays.old seats.old.entries) }
-    ensures sent { result.1 ≡ true → out.new.items ≡ out.old.items ++ flat_map (λ c. sent_by c.0 (ticked tight now c.1)) (conns_of stays.old seats.old.entries) }
+    ensures table { result.1 ≡ true → conns_of stays.new seats.new.entries ≡ all_reached measures now (conns_of stays.old seats.old.entries) }
+    ensures sent { result.1 ≡ true → out.new.items ≡ out.old.items ++ flat_map (λ c. sent_by c.0 (ticked measures now c.1)) (conns_of stays.old seats.old.entries) }
     ensures told { result.1 ≡ true
         → SeatsWereTold limits_of line.now.squeue.now pass result.0 stays.old stays.new seats.old.entries
         seats.new.entries (map hears (keys_of seats.old.entries)) }
-    ensures lost { result.1 ≡ false → Spoils tight now (conns_of stays.old seats.old.entries) (conns_of stays.new seats.new.entries) }
+    ensures lost { result.1 ≡ false → Spoils measures now (conns_of stays.old seats.old.entries) (conns_of stays.new seats.new.entries) }
 {
     if seats.is_empty() {
         return (pass, true);
@@ -97,7 +97,7 @@ fn reach_now<H: Wait + Drop, W: Wait>(
     let Ok(room) = Vec::with_capacity(alloc, seats.len()) else {
         return (pass, false);
     };
-    let (pass, _told) = tell_all(line, alloc, pass, stays, seats, tight, now);
+    let (pass, _told) = tell_all(line, alloc, pass, stays, seats, measures, now);
     let (pass, mut heard) = line.listen(alloc, pass, stays, room, out);
     mark_next(&mut heard, seats.len());
     learn_all(seats, heard.as_slice());
@@ -116,7 +116,7 @@ fn tell_all<H: Wait + Drop, W: Wait>(
     pass: Pass,
     stays: &mut Stays<ChatItem, Chat>,
     seats: &Table,
-    tight: bool,
+    measures: Measures,
     now: u64,
 ) -> (Pass, usize)
     requires { HasSeats limits_of line.now.squeue.now (origin_of line.now.squeue.now.given.first) pass stays.old seats.now.entries }
@@ -124,14 +124,14 @@ fn tell_all<H: Wait + Drop, W: Wait>(
     ensures number { number result.0 ≡ number pass }
     ensures count { result.1 ≤ length seats.now.entries }
     ensures grows { Grows (seen pass) (seen result.0) }
-    ensures told { AreTold tight now result.1 stays.old stays.new seats.now.entries }
+    ensures told { AreTold measures now result.1 stays.old stays.new seats.now.entries }
     ensures touched { touched_of stays.new ≡ places_in (take result.1 seats.now.entries) }
     ensures asks { (life_of stays.new).asks ≡ (life_of stays.old).asks }
 {
     let mut pass = pass;
     for i in 0..seats.len() {
         let seat = seat_at(seats, i);
-        let item = ChatItem::Time { tight, now };
+        let item = ChatItem::Time { measures, now };
         let (next, taken) = line.push(alloc, pass, stays, seat.place, item);
         pass = next;
         if !taken {

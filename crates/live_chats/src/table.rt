@@ -11,7 +11,7 @@ use crate::reaching::reach_each;
 use crate::seats::{Table, leave_all, meet_at, seat_new, vacate};
 use crate::{asking, leaving};
 use indexmap::IndexMap;
-use live_server::{Conn, ConnTable, Datagram, Met, Peer, Setting};
+use live_server::{Conn, ConnTable, Datagram, Measures, Met, Peer, Setting};
 use perimeter_core::Resident;
 use placed_parts::Places;
 use segment_codec::Seg;
@@ -227,10 +227,38 @@ impl<'q, H: Wait + Drop, W: Wait, N: Closes> ConnTable
         }
     }
 
+    fn shorten(
+        &mut self,
+        place: usize,
+        alloc: Global,
+        seq: u32,
+        most: u16,
+        _tuple: &Tuple,
+        out: &mut Vec<Datagram>,
+    ) -> Result<Met, AllocError> {
+        let pass = take_pass(&mut self.pass);
+        let (pass, met) = meet_at(
+            &self.line,
+            alloc,
+            pass,
+            &mut self.stays,
+            &mut self.seats,
+            &mut self.free,
+            place,
+            ChatItem::Shortens { seq, most },
+            out,
+        );
+        put_pass(&mut self.pass, pass);
+        match met {
+            Some(met) => Ok(met),
+            None => Err(AllocError),
+        }
+    }
+
     fn reach_all(
         &mut self,
         alloc: Global,
-        tight: bool,
+        measures: Measures,
         now: u64,
         out: &mut Vec<Datagram>,
     ) -> Result<(), AllocError> {
@@ -242,7 +270,7 @@ impl<'q, H: Wait + Drop, W: Wait, N: Closes> ConnTable
             &mut self.stays,
             &mut self.seats,
             &mut self.free,
-            tight,
+            measures,
             now,
             out,
         );

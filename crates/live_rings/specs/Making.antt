@@ -1,5 +1,5 @@
 -- How a run by rings is set up.
-use Rattle.std.specs.Prelude.{◌≤◌, []}
+use Rattle.std.specs.Prelude.{◌≤◌, [], false}
 use Rattle.live_server.specs.Serving.{ServerOf}
 use Rattle.live_server.specs.Counting.{no_counts}
 use Rattle.live_server.specs.declared.crowding.TurnedAway.TheVariants.{Nobody}
@@ -7,7 +7,7 @@ use Rattle.live_rings.specs.declared.words.Layout.{Layout}
 
 -- a server of a stream to which nothing came
 abbrev pub server_of : Layout → ServerOf
-server_of s = record { conns = []; waiting = []; held = 0; pings = 0; turned = Nobody; setting = s.setting; secret = s.secret.0; counts = no_counts }
+server_of s = record { conns = []; waiting = []; held = 0; pings = 0; turned = Nobody; draining = false; setting = s.setting; secret = s.secret.0; counts = no_counts }
 
 -- there are squeues, and an owner processes something
 pub record IsInRange (s : Layout) : Type 0 where

@@ -1,6 +1,6 @@
 //! Streams by several squeues, which are served beside each other: each by a ring of its squeue.
 
-ghost use Rattle.std.specs.Prelude.{◌≤◌, ◌<◌, ℕ, All, IfOk, length, slice_index_or};
+ghost use Rattle.std.specs.Prelude.{◌≡◌, ◌≤◌, ◌<◌, ℕ, All, IfOk, length, min, slice_index_or};
 ghost use Rattle.live_rings.specs.declared.ending.EndedRing.{EndedRing};
 ghost use Rattle.ring_groups.specs.declared.groups.Group.{Group};
 ghost use Rattle.live_rings.specs.declared.ending.Ends.{Ends};
@@ -34,6 +34,7 @@ pub fn serve_rings<S: Source + Drop + Send, K: Sink + Drop + Send, W: Threads + 
     requires ends { length ends.items ≤ 63 }
     ensures ended { IfOk result (λ r. AllEnded S.rest S.read_faults K.contents K.write_faults setup.now ends.items r.streams.items) }
     ensures lived { IfOk result (λ r. AllLived S.rest S.read_faults K.contents K.write_faults setup.now r.squeues.items ends.items r.streams.items) }
+    ensures squeues { IfOk result (λ r. length r.squeues.items ≡ min setup.now.squeues (length ends.items)) }
 {
     let room = Vec::with_capacity(alloc, ends.len())?;
     let mut groups = deal(alloc, ends, setup.squeues)?;

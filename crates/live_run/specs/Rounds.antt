@@ -2,11 +2,7 @@
 use Rattle.std.specs.Prelude.{◌≡◌, ℕ, ◌+◌, ◌-◌, ◌*◌, min, ◌⊎◌, nat_le, true, List, [], ◌∷◌, take, Option, if◌then◌else◌}
 use Rattle.std.specs.Io.KnownBytes.{Appends}
 use Rattle.std.specs.List.{concat}
-use Rattle.segment_codec.specs.Packet.{packet_in}
-use Rattle.segment_codec.specs.declared.packet.Packet.TheVariants.{Segment}
-use Rattle.segment_codec.specs.declared.packet.Seg.{Seg}
-use Rattle.sq_base.specs.declared.kinds.Link.TheVariants.{RawIp}
-use Rattle.live_server.specs.Isolation.{Costs, LosesOne}
+use Rattle.live_server.specs.Isolation.{CostsOf, LosesOne}
 use Rattle.live_server.specs.declared.acting.Datagram.{Datagram}
 use Rattle.live_server.specs.Serving.{Outcome, ServerOf, on_datagram, on_time, sends_nothing, then_sends}
 
@@ -30,12 +26,12 @@ timed now ticked sv = if nat_le tick_interval (now - ticked) then on_time now sv
 abbrev pub round : ℕ → ℕ → List ℕ → ServerOf → Outcome
 round now ticked body sv = then_sends (timed now ticked sv) (on_datagram now body)
 
--- Where memory was missing: as the time came to all, and then only the connections changed; or behind it, at the segment of the datagram, or
--- at the answer to an echo request, and then nothing more changed
+-- Where memory was missing: as the time came to all, and then only the connections changed; or behind it, and then what it cost is what the
+-- datagram costs
 abbrev pub LosesAtRound : ℕ → ℕ → List ℕ → ServerOf → ServerOf → Type 0
 LosesAtRound now ticked body before after =
     ((nat_le tick_interval (now - ticked) ≡ true) × LosesOne now before after × (after ≡ record before { conns = after.conns }))
-    ⊎ (((s : Seg) × (packet_in RawIp body true ≡ Segment s) × Costs s (timed now ticked before).server after) ⊎ (after ≡ (timed now ticked before).server))
+    ⊎ CostsOf body (timed now ticked before).server after
 
 -- of each datagram a front is written: all of it, or nothing where the device refuses it
 abbrev pub AreFronts : List (List ℕ) → List Datagram → Type 0

@@ -32,19 +32,26 @@ length_of text = option_and_then (λ n. if nat_lt n (2 ^ 16) then Some n else No
 abbrev pub pings_in : List Text → Option ℕ
 pings_in [] = Some 1000
 pings_in (_ ∷ []) = Some 1000
-pings_in (_ ∷ word ∷ []) = numeral word
-pings_in (_ ∷ _ ∷ _ ∷ _) = None
+pings_in (_ ∷ word ∷ _) = numeral word
 
--- ADDRESS BROADCAST PLACES IDLE BYTES SEGMENT [PORTS [PINGS]], IDLE in seconds
-abbrev pub setting_by : Option Addr → Option Addr → Option ℕ → Option ℕ → Option ℕ → Option ℕ → Option Ports → Option ℕ → Option Setting
-setting_by address broadcast places idle bytes segment ports pings =
-    option_and_then (λ a. option_and_then (λ b. option_and_then (λ p. option_and_then (λ i. option_and_then (λ h. option_and_then (λ t. option_and_then (λ s. option_map (λ e.
-    record { address = a; broadcast = b; places = p; idle = i * 1000000; bytes = h; segment = t; pings = e; ports = s; site = None })
-    pings) ports) segment) bytes) idle) places) broadcast) address
+-- the host whose orders count, where its address stands behind that word
+abbrev pub host_in : List Text → Option (Option Addr)
+host_in [] = Some None
+host_in (_ ∷ []) = Some None
+host_in (_ ∷ _ ∷ []) = Some None
+host_in (_ ∷ _ ∷ word ∷ []) = option_map (λ a. Some a) (address_of word)
+host_in (_ ∷ _ ∷ _ ∷ _ ∷ _) = None
+
+-- ADDRESS BROADCAST PLACES IDLE BYTES SEGMENT [PORTS [PINGS [HOST]]], IDLE in seconds
+abbrev pub setting_by : Option Addr → Option Addr → Option ℕ → Option ℕ → Option ℕ → Option ℕ → Option Ports → Option ℕ → Option (Option Addr) → Option Setting
+setting_by address broadcast places idle bytes segment ports pings host =
+    option_and_then (λ a. option_and_then (λ b. option_and_then (λ p. option_and_then (λ i. option_and_then (λ h. option_and_then (λ t. option_and_then (λ s. option_and_then (λ e. option_map (λ o.
+    record { address = a; broadcast = b; places = p; idle = i * 1000000; bytes = h; segment = t; pings = e; ports = s; site = None; host = o })
+    host) pings) ports) segment) bytes) idle) places) broadcast) address
 
 abbrev pub setting_of : List Text → Option Setting
 setting_of (address ∷ broadcast ∷ places ∷ idle ∷ bytes ∷ segment ∷ rest) =
-    setting_by (address_of address) (address_of broadcast) (numeral places) (numeral idle) (numeral bytes) (length_of segment) (ports_in rest) (pings_in rest)
+    setting_by (address_of address) (address_of broadcast) (numeral places) (numeral idle) (numeral bytes) (length_of segment) (ports_in rest) (pings_in rest) (host_in rest)
 setting_of [] = None
 setting_of (_ ∷ []) = None
 setting_of (_ ∷ _ ∷ []) = None

@@ -1,6 +1,7 @@
 //! Standard input and output as a TUN device: each read is a datagram, and each write is one.
 
-ghost use Rattle.std.specs.Prelude.{◌≡◌, ◌+◌, ◌<◌, ◌≤◌, ◌^◌, min, length, OnErr, OnOk};
+ghost use Rattle.std.specs.Prelude.{◌≡◌, ◌+◌, ◌-◌, ◌/◌, ◌<◌, ◌≤◌, ◌^◌, min, length, OnErr, OnOk};
+ghost use Rattle.std.specs.Duration.{as_nanos};
 ghost use Rattle.tcb_machine.specs.Limits.{last_time};
 ghost use Rattle.live_server.specs.Isolation.{KeepsStart};
 ghost use Rattle.live_run.specs.Rounds.{round, ticked_by, told_after, AppendsEach, LosesAtRound};
@@ -80,12 +81,11 @@ fn since_1970(rt: &HostRuntime) -> Result<u64, Fault> {
     }
 }
 
-/// A time in microseconds.
-fn micros(since: Duration) -> u64 {
-    since
-        .as_secs()
-        .saturating_mul(1_000_000)
-        .saturating_add(u64::from(since.subsec_micros()))
+/// A time in whole microseconds, or the most that there are.
+fn micros(since: Duration) -> u64
+    ensures { result ≡ min (2 ^ 64 - 1) (as_nanos since / 1_000) }
+{
+    since.as_micros().min(u128::from(u64::MAX)) as u64
 }
 
 /// So many microseconds later, or the last time that there is.

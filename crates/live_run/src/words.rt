@@ -3,7 +3,7 @@
 ghost use Rattle.std.specs.Prelude.{◌≡◌, ◌<◌, map};
 ghost use Rattle.std.specs.String.{string_bytes};
 ghost use Rattle.shell.specs.Numbers.{numeral};
-ghost use Rattle.live_run.specs.Words.{address_of, asked, device_asked, frames_asked, length_of, pings_in, secret_of, setting_of};
+ghost use Rattle.live_run.specs.Words.{address_of, asked, device_asked, frames_asked, host_in, length_of, pings_in, secret_of, setting_of};
 
 use crate::port_words::ports_in;
 use byteorder::{BigEndian, ByteOrder};
@@ -65,7 +65,7 @@ fn device_asked(words: &[String]) -> Option<ServerWords>
 
 /// The address that is answered for and the network's broadcast address, each as eight hexadecimal digits, how many connections are
 /// kept, after how many seconds one is idle, how many bytes all may hold, and how many a segment that is sent; then, where they are given,
-/// the ports of the services, and how many echo requests are answered from tick to tick.
+/// the ports of the services, how many echo requests are answered from tick to tick, and the address of the host whose orders are obeyed.
 fn setting_of(words: &[String]) -> Option<Setting>
     ensures { result ≡ setting_of (map (λ s. string_bytes s) words.now) }
 {
@@ -82,6 +82,7 @@ fn setting_of(words: &[String]) -> Option<Setting>
         ports: ports_in(rest)?,
         pings: pings_in(rest)?,
         site: None,
+        host: host_in(rest)?,
     })
 }
 
@@ -91,7 +92,17 @@ fn pings_in(words: &[String]) -> Option<u32>
 {
     match words {
         [] | [_] => Some(1000),
-        [_, word] => numeral(word.as_str()),
+        [_, word, ..] => numeral(word.as_str()),
+    }
+}
+
+/// The host whose orders are obeyed, where its address stands behind that word.
+fn host_in(words: &[String]) -> Option<Option<Addr>>
+    ensures { result ≡ host_in (map (λ s. string_bytes s) words.now) }
+{
+    match words {
+        [] | [_] | [_, _] => Some(None),
+        [_, _, word] => Some(Some(address_of(word.as_str())?)),
         _ => None,
     }
 }

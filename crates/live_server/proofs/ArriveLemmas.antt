@@ -11,7 +11,7 @@ use Rattle.live_server.specs.Acts.{Meeting, emptied, is_over, judged, meets, rea
 use Rattle.live_server.specs.Counting.{counting_judged}
 use Rattle.live_server.specs.Initial.{number_for}
 use Rattle.live_server.specs.Isolation.{KeepsStart, LosesOne}
-use Rattle.live_server.specs.Serving.{Outcome, ServerOf, arrives, becomes, comes, fits, gives_way, goes_on, has_place, heeds, holding, is_tight, is_waiting, judging, makes_place, on_segment, opens, overfull, sends_nothing, served, time_to, without_text, yielding, yields, yields_at}
+use Rattle.live_server.specs.Serving.{Outcome, ServerOf, arrives, becomes, comes, fits, gives_way, goes_on, has_place, heeds, holding, is_waiting, judging, makes_place, measures_of, on_segment, opens, overfull, sends_nothing, served, time_to, without_text, yielding, yields, yields_at}
 use Rattle.live_server.specs.Table.{Conns, conn_at, place_of, reached_until, replaced, settled, tuple_eq, without, IsNew}
 use Rattle.live_server.specs.Told.{Told, told_arriving, told_coming, told_its_own, told_opening, told_segment}
 use Rattle.live_server.specs.Told.Told.{hears}
@@ -360,7 +360,7 @@ start_behind sv b c is keeps =
 
 -- ---- want of memory at a tick, in a map
 pub loses_one : {X E : Type 0} (r : Result X E) (now : ℕ) (sv after : ServerOf)
-    → OnErr r ((i : ℕ) × (i < length sv.conns) × (after.conns ≡ without i (reached_until (is_tight sv) now i sv.conns)))
+    → OnErr r ((i : ℕ) × (i < length sv.conns) × (after.conns ≡ without i (reached_until (measures_of sv) now i sv.conns)))
     → OnErr r (after ≡ record sv { conns = after.conns }) → OnErr r (LosesOne now sv after)
 loses_one (Ok x) now sv after lost rest = tt
 loses_one (Err e) now sv after lost rest = subst (LosesOne now sv) (sym rest) (lost_one now sv sv refl lost.0 lost.1 after.conns lost.2)

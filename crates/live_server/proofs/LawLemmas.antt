@@ -12,7 +12,7 @@ use Rattle.live_server.specs.Acts.{emptied, is_half_open, is_over, judged, new_c
 use Rattle.live_server.specs.Initial.{number_for}
 use Rattle.live_server.specs.Services.{service_at}
 use Rattle.live_server.specs.Isolation.{conn_of, kept_as, IsTable, Loses, OthersStay, OwnConnActs, SegmentKeepsTable, Stays}
-use Rattle.live_server.specs.Serving.{Outcome, ServerOf, becomes, comes, fits, gives_way, goes_on, has_place, heeded, heeded_text, heeds, holding, is_waiting, judging, noting, numbered, on_segment, opens, overfull, sends_nothing, sends_of, served, takes_free, takes_place, time_to, turns_away, without_text, yielding, yields, yields_at}
+use Rattle.live_server.specs.Serving.{Outcome, ServerOf, admits, becomes, comes, fits, gives_way, goes_on, has_place, heeded, heeded_text, heeds, holding, is_waiting, judging, noting, numbered, on_segment, opens, overfull, refuses, sends_nothing, sends_of, served, takes_free, takes_place, time_to, turns_away, without_text, yielding, yields, yields_at}
 use Rattle.live_server.specs.Table.{Conns, conn_at, place_of, tuple_eq, without, IsNew}
 use Rattle.live_server.specs.declared.conn.Conn.{Conn}
 use Rattle.live_server.specs.declared.setting.Setting.{Setting}
@@ -131,7 +131,7 @@ module _ (t : Tuple) (c : Conn) (sv : ServerOf) (new : IsNew t sv.conns) where
 
 -- ---- the connection at a place becomes another one
 module _ (i : ℕ) (t : Tuple) (c : Conn) (sv : ServerOf) (at : place_of t sv.conns ≡ Some i) (table : IsTable sv) where
-  become_table : IsTable (becomes i t c sv).server
+  pub become_table : IsTable (becomes i t c sv).server
   unfolding becomes
   become_table = record {
     once = distinct_replaced sv.conns i c (within_at t sv.conns i at) table.once;
@@ -171,22 +171,38 @@ module _ (now : ℕ) (s : Seg) (text : List ℕ) (sv : ServerOf) (table : IsTabl
   abbrev room_made : ServerOf
   room_made = yielding sv.waiting sv
 
-  pub opened_by : (b : Bool) → is_over fresh ≡ b → opens now s text sv ≡ cond b (sends_of ends fresh sv) (takes_place ends fresh room_made)
-  unfolding opens
-  opened_by b e = ap (λ v. cond v (sends_of ends fresh sv) (takes_place ends fresh room_made)) e
+  pub admitted_by : (b : Bool) → is_over fresh ≡ b → admits now s text sv ≡ cond b (sends_of ends fresh sv) (takes_place ends fresh room_made)
+  unfolding admits
+  admitted_by b e = ap (λ v. cond v (sends_of ends fresh sv) (takes_place ends fresh room_made)) e
 
-  opened_table : IsNew ends sv.conns → (b : Bool) → is_over fresh ≡ b → IsTable (opens now s text sv).server
-  opened_table new true e = subst (λ (o : Outcome). IsTable o.server) (sym (opened_by true e)) table
-  opened_table new false e =
-      subst (λ (o : Outcome). IsTable o.server) (sym (opened_by false e))
+  admitted_table : IsNew ends sv.conns → (b : Bool) → is_over fresh ≡ b → IsTable (admits now s text sv).server
+  admitted_table new true e = subst (λ (o : Outcome). IsTable o.server) (sym (admitted_by true e)) table
+  admitted_table new false e =
+      subst (λ (o : Outcome). IsTable o.server) (sym (admitted_by false e))
       (taken_table ends fresh room_made (still_new ends sv room_made (yielding_stays ends sv.waiting sv table) new) (yielding_table sv.waiting sv table) (has_place room_made) refl)
 
-  opened_stays : (q : Tuple) → tuple_eq ends q ≡ false → IsNew ends sv.conns → (b : Bool) → is_over fresh ≡ b → Stays q sv (opens now s text sv).server
-  opened_stays q apart new true e = subst (λ (o : Outcome). Stays q sv o.server) (sym (opened_by true e)) (inl refl)
-  opened_stays q apart new false e =
-      subst (λ (o : Outcome). Stays q sv o.server) (sym (opened_by false e))
+  admitted_stays : (q : Tuple) → tuple_eq ends q ≡ false → IsNew ends sv.conns → (b : Bool) → is_over fresh ≡ b → Stays q sv (admits now s text sv).server
+  admitted_stays q apart new true e = subst (λ (o : Outcome). Stays q sv o.server) (sym (admitted_by true e)) (inl refl)
+  admitted_stays q apart new false e =
+      subst (λ (o : Outcome). Stays q sv o.server) (sym (admitted_by false e))
       (stays_on q sv room_made (takes_place ends fresh room_made).server (yielding_stays q sv.waiting sv table)
       (inl (taken_stays ends fresh room_made (still_new ends sv room_made (yielding_stays ends sv.waiting sv table) new) q apart (has_place room_made) refl)))
+
+  opened_table : IsNew ends sv.conns → IsTable (opens now s text sv).server
+  unfolding opens
+  opened_table new = by sv.draining
+    where
+      by : (b : Bool) → IsTable (cond b (refuses now s sv) (admits now s text sv)).server
+      by true = record { once = table.once; bounded = table.bounded }
+      by false = admitted_table new (is_over fresh) refl
+
+  opened_stays : (q : Tuple) → tuple_eq ends q ≡ false → IsNew ends sv.conns → Stays q sv (opens now s text sv).server
+  unfolding opens
+  opened_stays q apart new = by sv.draining
+    where
+      by : (b : Bool) → Stays q sv (cond b (refuses now s sv) (admits now s text sv)).server
+      by true = inl refl
+      by false = admitted_stays q apart new (is_over fresh) refl
 
   abbrev gone_on : ℕ → Outcome
   gone_on i = goes_on now s text i sv
@@ -203,7 +219,7 @@ module _ (now : ℕ) (s : Seg) (text : List ℕ) (sv : ServerOf) (table : IsTabl
   came_by r at = ap (λ o. option_map_or gone_on o (opens now s text sv)) at
 
   came_table : (r : Option ℕ) → place_of ends sv.conns ≡ r → IsTable (comes now s text sv).server
-  came_table None at = subst (λ (o : Outcome). IsTable o.server) (sym (came_by None at)) (opened_table (new_from_place ends sv.conns at) (is_over fresh) refl)
+  came_table None at = subst (λ (o : Outcome). IsTable o.server) (sym (came_by None at)) (opened_table (new_from_place ends sv.conns at))
   came_table (Some i) at =
       subst (λ (o : Outcome). IsTable o.server) (sym (came_by (Some i) at ∙ went_on i)) (become_table i ends _ (judging (judged now s text (conn_at i sv.conns)) sv) at (judged_table i))
 
@@ -213,7 +229,7 @@ module _ (now : ℕ) (s : Seg) (text : List ℕ) (sv : ServerOf) (table : IsTabl
       ∙ become_look i ends _ (judging (judged now s text (conn_at i sv.conns)) sv) at (judged_table i) q ∙ chosen false (tuple_eq ends q) _ _ apart
 
   came_stays : (q : Tuple) → tuple_eq ends q ≡ false → (r : Option ℕ) → place_of ends sv.conns ≡ r → Stays q sv (comes now s text sv).server
-  came_stays q apart None at = subst (λ (o : Outcome). Stays q sv o.server) (sym (came_by None at)) (opened_stays q apart (new_from_place ends sv.conns at) (is_over fresh) refl)
+  came_stays q apart None at = subst (λ (o : Outcome). Stays q sv o.server) (sym (came_by None at)) (opened_stays q apart (new_from_place ends sv.conns at))
   came_stays q apart (Some i) at = inl (became_others i at q apart)
 
   came_own : (i : ℕ) → place_of ends sv.conns ≡ Some i → conn_of ends (comes now s text sv).server ≡ kept_as (served now s text sv (conn_at i sv.conns))
@@ -222,7 +238,7 @@ module _ (now : ℕ) (s : Seg) (text : List ℕ) (sv : ServerOf) (table : IsTabl
       ∙ become_look i ends _ (judging (judged now s text (conn_at i sv.conns)) sv) at (judged_table i) ends ∙ chosen true (tuple_eq ends ends) _ _ (tuple_equivalence.refl ends)
 
 -- a connection that is looked up has a place
-placed_at : (t : Tuple) (cs : Conns) (c : Conn) → lookup (tuple_eq t) cs ≡ Some c → (r : Option ℕ) → place_of t cs ≡ r → (i : ℕ) × (place_of t cs ≡ Some i) × (conn_at i cs ≡ c)
+pub placed_at : (t : Tuple) (cs : Conns) (c : Conn) → lookup (tuple_eq t) cs ≡ Some c → (r : Option ℕ) → place_of t cs ≡ r → (i : ℕ) × (place_of t cs ≡ Some i) × (conn_at i cs ≡ c)
 placed_at t cs c look None at = absurd (true≢false (sym (ap is_some look) ∙ ap is_some (new_from_place t cs at)))
 placed_at t cs c look (Some i) at = (i, at, ap (λ o. unwrap_or o c) (sym (conn_looked t cs i at) ∙ look))
 

@@ -22,5 +22,7 @@ pub mod ToldLemmas
 pub mod PromiseLemmas
 pub mod FlightLemmas
 pub mod ShortLemmas
+pub mod PathLemmas
 pub mod OneLemmas
 pub mod TightLemmas
+pub mod DrainLemmas

@@ -12,11 +12,11 @@ use Rattle.live_server.specs.Acts.{is_over, new_conn, reached}
 use Rattle.live_server.specs.Isolation.{IsTable, conn_of}
 use Rattle.live_server.specs.Promises.{FewWait, HasLeft, OneGivesWay, SegmentKeepsFew, TimeKeepsFew}
 use Rattle.live_server.specs.Services.{service_at}
-use Rattle.live_server.specs.Serving.{Outcome, ServerOf, becomes, comes, fits, gives_way, goes_on, has_place, heeded, heeded_text, heeds, holding, is_waiting, makes_place, noting, on_segment, on_time, opens, overfull, sends_nothing, sends_of, served, takes_free, takes_place, time_to, turns_away, yielding, yields, yields_at}
+use Rattle.live_server.specs.Serving.{Outcome, ServerOf, admits, becomes, comes, fits, gives_way, goes_on, has_place, heeded, heeded_text, heeds, holding, is_waiting, makes_place, noting, on_segment, on_time, opens, overfull, refuses, sends_nothing, sends_of, served, takes_free, takes_place, time_to, turns_away, yielding, yields, yields_at}
 use Rattle.live_server.specs.Table.{Conns, conn_at, place_of, tuple_eq}
 use Rattle.live_server.specs.declared.conn.Conn.{Conn}
 use Rattle.live_server.specs.declared.setting.Setting.{Setting}
-use Rattle.live_server.proofs.LawLemmas.{became_others, came_by, noted_conns, noted_table, opened_by, same_ends, still_new, taken_stays, timed_kept, timed_stays, timed_table, with_waiting, yielding_stays, yields_by}
+use Rattle.live_server.proofs.LawLemmas.{became_others, came_by, noted_conns, noted_table, admitted_by, same_ends, still_new, taken_stays, timed_kept, timed_stays, timed_table, with_waiting, yielding_stays, yields_by}
 use Rattle.live_server.proofs.ServerLemmas.{stops}
 use Rattle.live_server.proofs.TableLemmas.{first_at, length_without, look_without, new_from_place, same, within_at}
 
@@ -100,24 +100,32 @@ module _ (now : ℕ) (s : Seg) (text : List ℕ) (sv : ServerOf) (table : IsTabl
   abbrev fresh : Conn
   fresh = served now s text sv (new_conn (service_at sv.setting now s.dst_port) sv.setting.segment now)
 
-  opened_but : Rattle.live_server.specs.Table.IsNew own sv.conns → (b : Bool) → is_over fresh ≡ b → OthersBut own sv (opens now s text sv).server
-  opened_but new true e = (own, λ q apart _. ap (λ (o : Outcome). conn_of q o.server) (opened_by now s text sv table true e))
-  opened_but new false e = by (one_yields sv.waiting sv table few)
+  admitted_but : Rattle.live_server.specs.Table.IsNew own sv.conns → (b : Bool) → is_over fresh ≡ b → OthersBut own sv (admits now s text sv).server
+  admitted_but new true e = (own, λ q apart _. ap (λ (o : Outcome). conn_of q o.server) (admitted_by now s text sv table true e))
+  admitted_but new false e = by (one_yields sv.waiting sv table few)
     where
       room : ServerOf
       room = makes_place sv
 
-      placed : (q : Tuple) → tuple_eq own q ≡ false → conn_of q (opens now s text sv).server ≡ conn_of q room
+      placed : (q : Tuple) → tuple_eq own q ≡ false → conn_of q (admits now s text sv).server ≡ conn_of q room
       placed q apart =
-          ap (λ (o : Outcome). conn_of q o.server) (opened_by now s text sv table false e)
+          ap (λ (o : Outcome). conn_of q o.server) (admitted_by now s text sv table false e)
           ∙ taken_stays own fresh room (still_new own sv room (yielding_stays own sv.waiting sv table) new) q apart (has_place room) refl
 
-      by : AllBut sv room → OthersBut own sv (opens now s text sv).server
+      by : AllBut sv room → OthersBut own sv (admits now s text sv).server
       by (inl none) = (own, λ q apart _. placed q apart ∙ ap (λ (l : Conns). lookup (tuple_eq q) l) none)
       by (inr one) = (one.0, λ q apart away. placed q apart ∙ one.1 q away)
 
+  opened_but : Rattle.live_server.specs.Table.IsNew own sv.conns → OthersBut own sv (opens now s text sv).server
+  unfolding opens
+  opened_but new = by sv.draining
+    where
+      by : (b : Bool) → OthersBut own sv (cond b (refuses now s sv) (admits now s text sv)).server
+      by true = (own, λ q apart _. refl)
+      by false = admitted_but new (is_over fresh) refl
+
   came_but : (r : Option ℕ) → place_of own sv.conns ≡ r → OthersBut own sv (comes now s text sv).server
-  came_but None at = subst (λ (o : Outcome). OthersBut own sv o.server) (sym (came_by now s text sv table None at)) (opened_but (new_from_place own sv.conns at) (is_over fresh) refl)
+  came_but None at = subst (λ (o : Outcome). OthersBut own sv o.server) (sym (came_by now s text sv table None at)) (opened_but (new_from_place own sv.conns at))
   came_but (Some i) at = (own, λ q apart _. became_others now s text sv table i at q apart)
 
 module _ (now : ℕ) (s : Seg) (text : List ℕ) (sv : ServerOf) (table : IsTable sv) (few : FewWait sv) where
@@ -202,9 +210,9 @@ placed_few t c sv few = by (nat_lt (length sv.conns) sv.setting.places) (nat_lt 
     by true false e = few
     by false b e = few
 
-opened_few : (now : ℕ) (s : Seg) (text : List ℕ) (sv : ServerOf) → FewWait sv → FewWait (opens now s text sv).server
-unfolding opens
-opened_few now s text sv few = by (is_over fresh_conn)
+admitted_few : (now : ℕ) (s : Seg) (text : List ℕ) (sv : ServerOf) → FewWait sv → FewWait (admits now s text sv).server
+unfolding admits
+admitted_few now s text sv few = by (is_over fresh_conn)
   where
     fresh_conn : Conn
     fresh_conn = served now s text sv (new_conn (service_at sv.setting now s.dst_port) sv.setting.segment now)
@@ -212,6 +220,14 @@ opened_few now s text sv few = by (is_over fresh_conn)
     by : (b : Bool) → FewWait (cond b (sends_of (tuple_of s) fresh_conn sv) (takes_place (tuple_of s) fresh_conn (makes_place sv))).server
     by true = few
     by false = placed_few (tuple_of s) fresh_conn (makes_place sv) (yielding_few sv.waiting sv few few)
+
+opened_few : (now : ℕ) (s : Seg) (text : List ℕ) (sv : ServerOf) → FewWait sv → FewWait (opens now s text sv).server
+unfolding opens
+opened_few now s text sv few = by sv.draining
+  where
+    by : (b : Bool) → FewWait (cond b (refuses now s sv) (admits now s text sv)).server
+    by true = few
+    by false = admitted_few now s text sv few
 
 came_few : (now : ℕ) (s : Seg) (text : List ℕ) (sv : ServerOf) → FewWait sv → FewWait (comes now s text sv).server
 unfolding comes goes_on becomes

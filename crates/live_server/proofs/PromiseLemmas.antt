@@ -13,13 +13,14 @@ use Rattle.live_server.specs.Acts.{after, emptied, is_over, judged, new_conn, pr
 use Rattle.live_server.specs.Congestion.{eased, grown, halved, is_duplicate, is_fresh, reaches, recovers, repeated, seen_window, timed_out, tolerance}
 use Rattle.live_server.specs.Limits.{challenge_interval}
 use Rattle.live_server.specs.Promises.{ChallengesAreApart, Coming, FirstIsWide, IsWide, SegmentKeepsWide, ShownIsNarrow, TextIsBounded, TextIsCounted, TimeCountsAnew, TimeoutIsWide, came, challenges, segment, time, when_challenged}
-use Rattle.live_server.specs.Serving.{ServerOf, becomes, comes, fits, gives_way, goes_on, has_place, heeded, heeded_text, heeds, holding, is_waiting, makes_place, noting, on_segment, on_time, opens, overfull, sends_nothing, sends_of, served, takes_free, takes_place, time_to, turns_away, yielding, yields, yields_at}
+use Rattle.live_server.specs.Serving.{ServerOf, admits, becomes, comes, fits, gives_way, goes_on, has_place, heeded, heeded_text, heeds, holding, is_waiting, makes_place, noting, on_segment, on_time, opens, overfull, refuses, sends_nothing, sends_of, served, takes_free, takes_place, time_to, turns_away, yielding, yields, yields_at}
 use Rattle.live_server.specs.Services.{service_at}
 use Rattle.live_server.specs.Table.{conn_at, place_of}
 use Rattle.live_server.specs.declared.congestion.Congestion.{Congestion}
 use Rattle.live_server.specs.declared.conn.Conn.{Conn}
 use Rattle.live_server.specs.declared.conn.Judged.{Judged}
 use Rattle.live_server.specs.declared.conn.Judged.TheVariants.{Challenged, Late, Taken, Unanswered}
+use Rattle.live_server.specs.declared.measures.Measures.{Measures}
 
 -- ---- what counts as held changes where text is heeded alone
 yielded_held : (w : Tuple × ℕ) (sv : ServerOf) → (yields w sv).held ≡ sv.held
@@ -42,9 +43,9 @@ yielding_held (w ∷ ws) sv = by (has_place sv) (yielding_held ws (yields w (rec
     by true h = refl
     by false h = h
 
-opened_held : (now : ℕ) (s : Seg) (text : List ℕ) (sv : ServerOf) → (opens now s text sv).server.held ≡ sv.held
-unfolding opens takes_place
-opened_held now s text sv = by (is_over fresh)
+admitted_held : (now : ℕ) (s : Seg) (text : List ℕ) (sv : ServerOf) → (admits now s text sv).server.held ≡ sv.held
+unfolding admits takes_place
+admitted_held now s text sv = by (is_over fresh)
   where
     fresh : Conn
     fresh = served now s text sv (new_conn (service_at sv.setting now s.dst_port) sv.setting.segment now)
@@ -56,6 +57,14 @@ opened_held now s text sv = by (is_over fresh)
     by : (b : Bool) → (cond b (sends_of (tuple_of s) fresh sv) (takes_place (tuple_of s) fresh (makes_place sv))).server.held ≡ sv.held
     by true = refl
     by false = placed (has_place (makes_place sv))
+
+opened_held : (now : ℕ) (s : Seg) (text : List ℕ) (sv : ServerOf) → (opens now s text sv).server.held ≡ sv.held
+unfolding opens
+opened_held now s text sv = by sv.draining
+  where
+    by : (b : Bool) → (cond b (refuses now s sv) (admits now s text sv)).server.held ≡ sv.held
+    by true = refl
+    by false = admitted_held now s text sv
 
 came_held : (now : ℕ) (s : Seg) (text : List ℕ) (sv : ServerOf) → (comes now s text sv).server.held ≡ sv.held
 unfolding comes goes_on becomes
@@ -145,9 +154,9 @@ timed_quiet : (now : ℕ) (c : Conn) → (emptied (reached now c)).quiet_until �
 unfolding emptied
 timed_quiet now c = refl
 
-ticked_quiet : (tight : Bool) (now : ℕ) (c : Conn) → (emptied (ticked tight now c)).quiet_until ≡ c.quiet_until
+ticked_quiet : (measures : Measures) (now : ℕ) (c : Conn) → (emptied (ticked measures now c)).quiet_until ≡ c.quiet_until
 unfolding emptied
-ticked_quiet tight now c = refl
+ticked_quiet measures now c = refl
 
 came_quiet : (j : Judged) (now iss : ℕ) (s : Seg) (text : List ℕ) (c : Conn) → (emptied (after j now iss s text c)).quiet_until ≡ (elim j [ Taken ↦ c.quiet_until | Challenged ↦ now + challenge_interval | Unanswered ↦ c.quiet_until | Late ↦ c.quiet_until ])
 unfolding emptied after taken
@@ -181,7 +190,7 @@ segment_spaced now iss s text c rest behind = by (judged now s text before) refl
 
 spaced : (xs : List Coming) (c : Conn) → Spaced c.quiet_until (challenges xs c)
 spaced [] c = tt
-spaced (time tight now ∷ xs) c = subst (λ (n : ℕ). Spaced n (challenges xs (came (time tight now) c))) (ticked_quiet tight now c) (spaced xs (came (time tight now) c))
+spaced (time measures now ∷ xs) c = subst (λ (n : ℕ). Spaced n (challenges xs (came (time measures now) c))) (ticked_quiet measures now c) (spaced xs (came (time measures now) c))
 spaced (segment now iss s text ∷ xs) c = segment_spaced now iss s text c (challenges xs (came (segment now iss s text) c)) (spaced xs (came (segment now iss s text) c))
 
 pub challenges_apart : ChallengesAreApart

@@ -3,28 +3,32 @@ use Rattle.std.proofs.Common.{◌≡◌, ℕ, Bool, true, false, cond, List, [],
 use Rattle.std.specs.List.{AllByRecursion}
 use Rattle.std.specs.Option.{option_map_or}
 use Rattle.std.proofs.lemmas.List.Elements.{All-from_recursion}
-use Rattle.segment_codec.specs.Refusal.{tuple_of}
+use Rattle.segment_codec.specs.Refusal.{refusal_of, tuple_of}
 use Rattle.segment_codec.specs.declared.packet.Reply.{Reply}
 use Rattle.segment_codec.specs.declared.packet.Seg.{Seg}
 use Rattle.sq_base.specs.declared.kinds.Tuple.{Tuple}
 use Rattle.live_server.specs.Acts.{announcing, datagram_of, is_over, new_conn}
 use Rattle.live_server.specs.Isolation.{AnswersItsEnds}
 use Rattle.live_server.specs.Services.{service_at}
-use Rattle.live_server.specs.Serving.{Outcome, ServerOf, becomes, comes, fits, goes_on, has_place, heeded, heeded_text, heeds, makes_place, noting, on_segment, opens, sends_of, served, takes_free, takes_place, time_to, turns_away, without_text}
+use Rattle.live_server.specs.Serving.{Outcome, ServerOf, admits, becomes, comes, fits, goes_on, has_place, heeded, heeded_text, heeds, makes_place, noting, on_segment, opens, refuses, sends_of, served, takes_free, takes_place, time_to, turns_away, without_text}
 use Rattle.live_server.specs.Table.{place_of}
 use Rattle.live_server.specs.declared.acting.Datagram.{Datagram}
 use Rattle.live_server.specs.declared.conn.Conn.{Conn}
 
 module _ (t : Tuple) where
-  abbrev IsOfEnds : Datagram → Type 0
+  abbrev pub IsOfEnds : Datagram → Type 0
   IsOfEnds d = (r : Reply) × (d ≡ datagram_of t r)
 
-  abbrev AreOfEnds : List Datagram → Type 0
+  abbrev pub AreOfEnds : List Datagram → Type 0
   AreOfEnds ds = AllByRecursion IsOfEnds ds
 
-  of_replies : (most : ℕ) (rs : List Reply) → AreOfEnds (map (λ r. datagram_of t (announcing most r)) rs)
+  pub of_replies : (most : ℕ) (rs : List Reply) → AreOfEnds (map (λ r. datagram_of t (announcing most r)) rs)
   of_replies most [] = tt
   of_replies most (r ∷ rs) = ((announcing most r, refl), of_replies most rs)
+
+  of_refusal : (r : Option Reply) → AreOfEnds (option_map_or (λ (x : Reply). datagram_of t x ∷ []) r [])
+  of_refusal None = tt
+  of_refusal (Some r) = ((r, refl), tt)
 
   both : (xs ys : List Datagram) → AreOfEnds xs → AreOfEnds ys → AreOfEnds (xs ++ ys)
   both [] ys here there = there
@@ -47,12 +51,13 @@ module _ (t : Tuple) where
   taken c sv = chosen (has_place sv) (takes_free t c sv) (turns_away t sv) (of_replies _ _) tt
 
 came : (now : ℕ) (s : Seg) (text : List ℕ) (sv : ServerOf) → AreOfEnds (tuple_of s) (comes now s text sv).sent
-unfolding comes goes_on becomes opens
+unfolding comes goes_on becomes opens admits
 came now s text sv =
     let t = tuple_of s in
     let c = served now s text sv (new_conn (service_at sv.setting now s.dst_port) sv.setting.segment now) in
     by_place t (place_of t sv.conns) _ _ (λ i. of_replies t _ _)
-    (chosen t (is_over c) (sends_of t c sv) (takes_place t c (makes_place sv)) (of_replies t c.most c.tcb.replies) (taken t c (makes_place sv)))
+    (chosen t sv.draining (refuses now s sv) (admits now s text sv) (of_refusal t (refusal_of now s))
+    (chosen t (is_over c) (sends_of t c sv) (takes_place t c (makes_place sv)) (of_replies t c.most c.tcb.replies) (taken t c (makes_place sv))))
 
 same_ends : (s : Seg) (b : Bool) → tuple_of (cond b s (without_text s)) ≡ tuple_of s
 same_ends s true = refl

@@ -8,6 +8,7 @@ use Rattle.segment_codec.specs.declared.packet.Reply.{Reply}
 use Rattle.segment_codec.specs.declared.packet.Seg.{Seg}
 use Rattle.tcb_machine.specs.Agreed.{send_mss}
 use Rattle.tcb_machine.specs.BlockState.{Block, has, in_flight, new_block, rcv_nxt, rst_of, segment_of, sends, sends_ack, snd_end, snd_nxt, syn_ack_of, to_listen, unsent}
+use Rattle.tcb_machine.specs.CallAnswers.{close_in, tcp_call, wants_fin}
 use Rattle.tcb_machine.specs.Forgetting.{forgetting}
 use Rattle.tcb_machine.specs.Limits.{least_mss, most_retransmissions}
 use Rattle.tcb_machine.specs.Output.{is_sending, output, outputs_ack, outputs_deadline, outputs_fin, outputs_text, pieces, sendable, sends_pieces, sends_text, starts}
@@ -25,7 +26,7 @@ use Rattle.echo_services.specs.Serving.{followed}
 use Rattle.echo_services.proofs.PumpsLemmas.{chargen-pumps, daytime-pumps, discard-pumps, echo-pumps}
 use Rattle.page_service.specs.Site.{site, site-sound}
 use Rattle.page_service.proofs.PumpsLemmas.{pump-pumps}
-use Rattle.live_server.specs.Acts.{after, judged, pruned, reaches, renewed, resent, taken}
+use Rattle.live_server.specs.Acts.{after, closed, judged, pruned, reaches, renewed, resent, taken}
 use Rattle.live_server.specs.Congestion.{calls_again, eased, seen}
 use Rattle.live_server.specs.DaytimeText.{daytime_text}
 use Rattle.live_server.specs.Promises.{NewIsShort, SegmentKeepsShort, TimeKeepsShort}
@@ -264,6 +265,22 @@ module _ (n : ℕ) where
     unfolding tcp_segment
     segment_says now iss text b h = in_its_state b.state iss text (record b { clock = now }) refl (record { agreed = h.agreed; sent = h.sent })
 
+  -- who has a place has agreed, and no segment changes that
+  placed_state : (st : State) (s : Seg) (iss : ℕ) (text : List ℕ) (b : Block) → is_listen st ≡ false → Open b → Says (in_state st s iss text b)
+  placed_state Listen s iss text b e h = absurd (false≢true (sym e))
+  placed_state SynReceived s iss text b e h = arriving s text b h
+  placed_state Established s iss text b e h = arriving s text b h
+  placed_state FinWait1 s iss text b e h = arriving s text b h
+  placed_state FinWait2 s iss text b e h = arriving s text b h
+  placed_state CloseWait s iss text b e h = arriving s text b h
+  placed_state Closing s iss text b e h = arriving s text b h
+  placed_state LastAck s iss text b e h = arriving s text b h
+  placed_state TimeWait s iss text b e h = arriving s text b h
+
+  pub placed_says : (now iss : ℕ) (s : Seg) (text : List ℕ) (b : Block) → is_listen b.state ≡ false → Short b → Says (tcp_segment now iss s text b)
+  unfolding tcp_segment
+  placed_says now iss s text b e h = placed_state b.state s iss text (record b { clock = now }) e (record { agreed = h.agreed e; sent = h.sent })
+
   -- ---- output
   pieces_short : (k m : ℕ) (t : List ℕ) → m ≤ n → AllByRecursion (λ (p : List ℕ). length p ≤ n) (pieces k m t)
   pieces_short zero m t few = tt
@@ -403,7 +420,7 @@ module _ (n : ℕ) (some : 1 ≤ n) where
   unfolding renewed
   renewed_short una field b h = short_cond n ((b.una == una) && not (field == 0)) b (record b { retransmissions = 0 }) h (record { agreed = h.agreed; sent = h.sent })
 
-  resent_short : (called : Bool) (b : Block) → Short n b → Short n (resent called b)
+  pub resent_short : (called : Bool) (b : Block) → Short n b → Short n (resent called b)
   unfolding resent
   resent_short called b h = by (called && (not (is_listen b.state) && not (b.una == snd_nxt b))) refl
     where
@@ -416,27 +433,30 @@ module _ (n : ℕ) (some : 1 ≤ n) where
       by true e = short n (retransmits b.state b) (resent_open n some b.state b (while_open n b (opens called (is_listen b.state) (not (b.una == snd_nxt b)) e) h))
       by false e = h
 
-  taken_short : (now iss : ℕ) (s : Seg) (text : List ℕ) (c : Conn) → send_mss s.options.mss ≤ n → IsValid c.tcb → Short n c.tcb → Short n (taken now iss s text c).tcb
+  -- what its block makes of a segment, as the block sees that
+  abbrev SaysOf : ℕ → ℕ → Seg → List ℕ → Conn → Type 0
+  SaysOf now iss s text c = Says n (tcp_segment now iss (seen s c.tcb (eased s text c.tcb c.congestion)) text c.tcb)
+
+  taken_short : (now iss : ℕ) (s : Seg) (text : List ℕ) (c : Conn) → SaysOf now iss s text c → IsValid c.tcb → Short n (taken now iss s text c).tcb
   unfolding taken
-  taken_short now iss s text c limited valid h =
+  taken_short now iss s text c says valid =
       let t = seen s c.tcb (eased s text c.tcb c.congestion) in
       let b = followed (pump_of c.service) (tcp_segment now iss t text c.tcb) in
-      let one = followed_short (pump_of c.service) (pumps_of c.service) (record c.tcb { clock = now }) (tcp_segment now iss t text c.tcb) (segment-says now iss t text c.tcb valid)
-      (segment_says n t limited now iss text c.tcb h) in
+      let one = followed_short (pump_of c.service) (pumps_of c.service) (record c.tcb { clock = now }) (tcp_segment now iss t text c.tcb) (segment-says now iss t text c.tcb valid) says in
       resent_short (calls_again s text c.tcb c.congestion) (renewed c.tcb.una s.wnd b) (renewed_short c.tcb.una s.wnd b one)
 
-  after_short : (j : Judged) (now iss : ℕ) (s : Seg) (text : List ℕ) (c : Conn) → send_mss s.options.mss ≤ n → IsValid c.tcb → Short n c.tcb → Short n (after j now iss s text c).tcb
+  pub after_short : (j : Judged) (now iss : ℕ) (s : Seg) (text : List ℕ) (c : Conn) → SaysOf now iss s text c → IsValid c.tcb → Short n c.tcb → Short n (after j now iss s text c).tcb
   unfolding after
-  after_short Taken now iss s text c limited valid h = taken_short now iss s text c limited valid h
-  after_short Challenged now iss s text c limited valid h = ack_short n c.tcb h
-  after_short Unanswered now iss s text c limited valid h = h
-  after_short Late now iss s text c limited valid h = h
+  after_short Taken now iss s text c says valid h = taken_short now iss s text c says valid
+  after_short Challenged now iss s text c says valid h = ack_short n c.tcb h
+  after_short Unanswered now iss s text c says valid h = h
+  after_short Late now iss s text c says valid h = h
 
   reached_short : (now : ℕ) (b : Block) → IsValid b → Short n b → Short n (reaches now b)
   unfolding reaches
   reached_short now b valid h = short_cond n (nat_le b.clock now) (tcp_time now b) b (time_short n some now b valid h) h
 
-kept_most : (j : Judged) (now iss : ℕ) (s : Seg) (text : List ℕ) (c : Conn) → (after j now iss s text c).most ≡ c.most
+pub kept_most : (j : Judged) (now iss : ℕ) (s : Seg) (text : List ℕ) (c : Conn) → (after j now iss s text c).most ≡ c.most
 unfolding after taken
 kept_most Taken now iss s text c = refl
 kept_most Challenged now iss s text c = refl
@@ -455,7 +475,9 @@ segment_short now iss s text c valid h =
     let n = max least_mss c.most in
     let t = limited c.most s in
     let j = judged now t text c in
-    let one = after_short n (omega arith) j now iss t text c (limited_mss c.most s) valid (record { agreed = h.agreed; sent = h.sent }) in
+    let its : Short n c.tcb = record { agreed = h.agreed; sent = h.sent } in
+    let says = segment_says n (seen t c.tcb (eased t text c.tcb c.congestion)) (limited_mss c.most s) now iss text c.tcb its in
+    let one = after_short n (omega arith) j now iss t text c says valid its in
     let same = kept_most j now iss t text c in
     record {
       sent = subst (λ (m : ℕ). AreShort (max least_mss m) (after j now iss t text c).tcb.replies) (sym same) one.sent;
@@ -467,8 +489,27 @@ unfolding forgetting
 pruned_short n true b h = record { agreed = h.agreed; sent = h.sent }
 pruned_short n false b h = h
 
+-- a block that closes
+module _ (n : ℕ) where
+  closed_in : (state : State) (b : Block) → b.state ≡ state → Short n b → Short n (followed (λ x. x) (close_in state b).verdict)
+  closed_in Established b e h = let was = while_open n b (ap is_listen e) h in short n _ (output_open n (wants_fin FinWait1 b) (record { agreed = was.agreed; sent = was.sent }))
+  closed_in CloseWait b e h = let was = while_open n b (ap is_listen e) h in short n _ (output_open n (wants_fin LastAck b) (record { agreed = was.agreed; sent = was.sent }))
+  closed_in Listen b e h = h
+  closed_in SynReceived b e h = h
+  closed_in FinWait1 b e h = h
+  closed_in FinWait2 b e h = h
+  closed_in Closing b e h = h
+  closed_in LastAck b e h = h
+  closed_in TimeWait b e h = h
+
+  closed_short : (draining : Bool) (b : Block) → Short n b → Short n (closed draining b)
+  unfolding closed tcp_call
+  closed_short true b h = closed_in b.state b refl h
+  closed_short false b h = h
+
 pub time_keeps_short : TimeKeepsShort
-time_keeps_short tight now c valid h =
+time_keeps_short measures now c valid h =
     let n = max least_mss c.most in
-    let one = pruned_short n tight (reaches now c.tcb) (reached_short n (omega arith) now c.tcb valid (record { agreed = h.agreed; sent = h.sent })) in
+    let first = closed_short n measures.draining (reaches now c.tcb) (reached_short n (omega arith) now c.tcb valid (record { agreed = h.agreed; sent = h.sent })) in
+    let one = pruned_short n measures.tight (closed measures.draining (reaches now c.tcb)) first in
     record { sent = one.sent; agreed = one.agreed }

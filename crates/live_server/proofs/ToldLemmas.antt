@@ -1,5 +1,8 @@
 -- What connections are told, by the rules.
-use Rattle.std.proofs.Common.{◌≡◌, ℕ, ◌+◌, Bool, true, false, cond, not, List, [], ◌∷◌, ◌++◌, drop, refl, sym, ap, ◌∙◌, append_assoc}
+use Rattle.std.proofs.Common.{◌≡◌, ℕ, ◌+◌, Bool, true, false, cond, not, List, [], ◌∷◌, ◌++◌, drop, Option, None, Some, refl, sym, ap, ◌∙◌, append_assoc}
+use Rattle.std.specs.Option.{option_map_or}
+use Rattle.icmp_codec.specs.TooLong.{too_long_in}
+use Rattle.icmp_codec.specs.declared.too_long.TooLong.{TooLong}
 use Rattle.segment_codec.specs.Packet.{packet_in}
 use Rattle.segment_codec.specs.Refusal.{tuple_of}
 use Rattle.segment_codec.specs.SentIsRead.{text_in}
@@ -8,11 +11,13 @@ use Rattle.segment_codec.specs.declared.packet.Packet.TheVariants as packet
 use Rattle.segment_codec.specs.declared.packet.Seg.{Seg}
 use Rattle.sq_base.specs.declared.kinds.Link.TheVariants.{RawIp}
 use Rattle.live_server.specs.Acts.{is_over, new_conn}
-use Rattle.live_server.specs.Addresses.{is_for_us}
+use Rattle.live_server.specs.Addresses.{is_for_us, is_to_us}
 use Rattle.live_server.specs.Frames.{FrameOf, body_size, frame_at, frames_in, is_end, on_frame, rest_of, serves_frames}
 use Rattle.live_server.specs.Services.{is_served_at, service_at}
 use Rattle.live_server.specs.Serving.{ServerOf, limited, makes_place, served}
-use Rattle.live_server.specs.Told.{Told, told_addressed, told_datagram, told_frame, told_frames, told_opening, told_packet, told_segment, told_taking}
+use Rattle.live_server.specs.Told.{Told, told_addressed, told_datagram, told_frame, told_frames, told_other, told_packet, told_segment, told_taking, told_too_long, told_admitting}
+use Rattle.live_server.specs.Told.Told.{hears}
+use Rattle.live_server.specs.Table.{place_of}
 use Rattle.live_server.specs.declared.conn.Conn.{Conn}
 use Rattle.live_server.proofs.FrameLemmas.{frames_next}
 use Rattle.live_server.proofs.PieceLemmas.{pieces_join_proof}
@@ -21,9 +26,9 @@ module _ (now : ℕ) (s : Seg) (text : List ℕ) (sv : ServerOf) where
   abbrev pub new_one : Conn
   new_one = served now s text sv (new_conn (service_at sv.setting now s.dst_port) sv.setting.segment now)
 
-  pub opening_told : (b : Bool) → is_over new_one ≡ b → told_opening now s text sv ≡ cond b [] (told_taking (tuple_of s) (makes_place sv))
-  unfolding told_opening
-  opening_told b e = ap (λ (v : Bool). cond v [] (told_taking (tuple_of s) (makes_place sv))) e
+  pub admitting_told : (b : Bool) → is_over new_one ≡ b → told_admitting now s text sv ≡ cond b [] (told_taking (tuple_of s) (makes_place sv))
+  unfolding told_admitting
+  admitting_told b e = ap (λ (v : Bool). cond v [] (told_taking (tuple_of s) (makes_place sv))) e
 
   abbrev told_for : Bool → Bool → List Told
   told_for ours at_port = cond (not ours) [] (cond at_port (told_segment now (limited sv.setting.segment s) text sv) [])
@@ -33,27 +38,39 @@ module _ (now : ℕ) (s : Seg) (text : List ℕ) (sv : ServerOf) where
   unfolding told_addressed
   addressed_told ours at_port e f = λ j. told_for (e j) (f j)
 
+-- whom a router's message is told
+pub path_told_by : (x : TooLong) (sv : ServerOf) (b : Bool) (r : Option ℕ) → is_to_us sv.setting x.src x.dst ≡ b → place_of x.ends sv.conns ≡ r
+    → told_too_long x sv ≡ cond b (option_map_or (λ place. hears x.ends ∷ []) r []) []
+unfolding told_too_long
+path_told_by x sv b r e at = λ j. cond (e j) (option_map_or (λ place. hears x.ends ∷ []) (at j) []) []
+
 module _ (now : ℕ) (body : List ℕ) (sv : ServerOf) where
   pub packet_told : (s : Seg) → packet_in RawIp body true ≡ packet.Segment s → told_datagram now body sv ≡ told_addressed now s (text_in s body) sv
   unfolding told_datagram told_packet
   packet_told s e = ap (λ p. told_packet now body p sv) e
 
-  pub protocol_told : packet_in RawIp body true ≡ packet.Other → told_datagram now body sv ≡ []
-  unfolding told_datagram told_packet
-  protocol_told e = ap (λ p. told_packet now body p sv) e
+  protocol_told : packet_in RawIp body true ≡ packet.Other → (r : Option TooLong) → too_long_in body ≡ r → told_datagram now body sv ≡ option_map_or (λ x. told_too_long x sv) r []
+  unfolding told_datagram told_packet told_other
+  protocol_told e r is = ap (λ p. told_packet now body p sv) e ∙ ap (λ o. option_map_or (λ x. told_too_long x sv) o []) is
 
-  no_segment : (p : Packet) → ((s : Seg) → p ≡ packet.Segment s → ⊥) → told_packet now body p sv ≡ []
+  pub too_long_told : (x : TooLong) → packet_in RawIp body true ≡ packet.Other → too_long_in body ≡ Some x → told_datagram now body sv ≡ told_too_long x sv
+  too_long_told x e is = protocol_told e (Some x) is
+
+  pub unheard_told : packet_in RawIp body true ≡ packet.Other → too_long_in body ≡ None → told_datagram now body sv ≡ []
+  unheard_told e is = protocol_told e None is
+
+  no_segment : (p : Packet) → ((s : Seg) → p ≡ packet.Segment s → ⊥) → (p ≡ packet.Other → ⊥) → told_packet now body p sv ≡ []
   unfolding told_packet
-  no_segment (packet.Segment s) other = absurd (other s refl)
-  no_segment packet.Other other = refl
-  no_segment packet.Fragment other = refl
-  no_segment packet.Cut other = refl
-  no_segment (packet.Malformed why) other = refl
-  no_segment packet.BadSum other = refl
+  no_segment (packet.Segment s) segment other = absurd (segment s refl)
+  no_segment packet.Other segment other = absurd (other refl)
+  no_segment packet.Fragment segment other = refl
+  no_segment packet.Cut segment other = refl
+  no_segment (packet.Malformed why) segment other = refl
+  no_segment packet.BadSum segment other = refl
 
-  pub other_told : (p : Packet) → p ≡ packet_in RawIp body true → ((s : Seg) → p ≡ packet.Segment s → ⊥) → told_datagram now body sv ≡ []
+  pub other_told : (p : Packet) → p ≡ packet_in RawIp body true → ((s : Seg) → p ≡ packet.Segment s → ⊥) → (p ≡ packet.Other → ⊥) → told_datagram now body sv ≡ []
   unfolding told_datagram
-  other_told p is other = ap (λ q. told_packet now body q sv) (sym is) ∙ no_segment p other
+  other_told p is segment other = ap (λ q. told_packet now body q sv) (sym is) ∙ no_segment p segment other
 
 -- one frame more
 pub front_heard : (xs rest : List ℕ) (sv next : ServerOf) (so_far : List Told) → is_end xs ≡ false → rest ≡ drop (16 + body_size xs) xs

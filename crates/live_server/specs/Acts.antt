@@ -4,19 +4,21 @@ use Rattle.std.specs.Prelude.{List, [], ◌∷◌, ◌++◌, length, map, if◌t
 use Rattle.sq_base.specs.SerialOrder.{dist}
 use Rattle.byte_queues.specs.Limits.{send_space}
 use Rattle.byte_queues.specs.ReceiveQueue.{next_of}
-use Rattle.echo_services.specs.Serving.{kept, serves, segment}
+use Rattle.echo_services.specs.Serving.{followed, kept, serves, segment}
 use Rattle.segment_codec.specs.ControlBits.{ack, rst, syn}
 use Rattle.segment_codec.specs.SegmentBytes.{segment_bytes}
 use Rattle.segment_codec.specs.declared.packet.Reply.{Reply}
 use Rattle.segment_codec.specs.declared.packet.Seg.{Seg}
 use Rattle.sq_base.specs.declared.kinds.Tuple.{Tuple}
 use Rattle.tcb_machine.specs.BlockState.{Block, has, new_block, offered, sends_ack, snd_nxt}
+use Rattle.tcb_machine.specs.CallAnswers.{tcp_call}
 use Rattle.tcb_machine.specs.Challenges.{is_challenged, is_syn_received}
 use Rattle.tcb_machine.specs.Forgetting.{forgetting}
 use Rattle.tcb_machine.specs.Limits.{most_streamed}
 use Rattle.tcb_machine.specs.States.{is_listen}
 use Rattle.tcb_machine.specs.TcpStep.{tcp_segment}
 use Rattle.tcb_machine.specs.Timers.{retransmits, tcp_time}
+use Rattle.tcb_machine.specs.declared.kinds.Call.TheVariants.{Close}
 use Rattle.live_server.specs.Congestion.{calls_again, eased, no_congestion, seen, timed_out}
 use Rattle.live_server.specs.declared.congestion.Congestion.{Congestion}
 use Rattle.live_server.specs.Limits.{challenge_interval}
@@ -27,6 +29,7 @@ use Rattle.live_server.specs.declared.conn.Judged.{Judged}
 use Rattle.live_server.specs.declared.conn.Judged.TheVariants.{Challenged, Late, Taken, Unanswered}
 use Rattle.live_server.specs.declared.conn.Met.{Met}
 use Rattle.live_server.specs.declared.conn.Met.TheVariants.{Gone, Judged as judges}
+use Rattle.live_server.specs.declared.measures.Measures.{Measures}
 use Rattle.live_server.specs.declared.service.LiveService.{LiveService}
 use Rattle.live_server.specs.declared.service.LiveService.TheVariants.{Discard}
 
@@ -136,9 +139,18 @@ reached now c = record c { tcb = reaches now c.tcb; congestion = slowed c.tcb.re
 abbrev pub pruned : Bool → Block → Block
 pruned tight b = if tight then forgetting b else b
 
+-- and where the server drains, it closes (RFC 9293, 3.10.4): what it has to send goes first, and then its FIN. One that is half open stays so,
+-- and one that closes stays as it is. Its service offers nothing more from then on
+unfoldable pub closed : Bool → Block → Block
+closed draining b = if draining then followed (λ c. c) (tcp_call Close b).verdict else b
+
+-- nothing of that
+abbrev pub no_measures : Measures
+no_measures = record { tight = false; draining = false }
+
 -- so the time comes at a tick
-abbrev pub ticked : Bool → ℕ → Conn → Conn
-ticked tight now c = record (reached now c) { tcb = pruned tight (reaches now c.tcb) }
+abbrev pub ticked : Measures → ℕ → Conn → Conn
+ticked m now c = record (reached now c) { tcb = pruned m.tight (closed m.draining (reaches now c.tcb)) }
 
 -- what was sent leaves the block
 unfoldable pub emptied : Conn → Conn

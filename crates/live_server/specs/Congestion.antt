@@ -64,6 +64,17 @@ repeated b x =
 unfoldable pub timed_out : Block → Congestion → Congestion
 timed_out b x = record x { window = b.agreed.mss; threshold = halved b; duplicates = 0; recovering = true; recover = snd_nxt b }
 
+-- a router dropped what was too long for the path: cwnd stays, and comes back behind the recovery of all that was sent. Until then slow start
+-- sends one segment (RFC 1191, 6.4)
+unfoldable pub restarted : Block → Congestion → Congestion
+restarted b x = record x {
+  window = b.agreed.mss;
+  threshold = (if x.recovering then x.threshold else max x.window (2 * b.agreed.mss));
+  duplicates = 0;
+  recovering = true;
+  recover = snd_nxt b;
+}
+
 -- behind the handshake: new bytes are acknowledged, or none, and the segment says nothing else (RFC 5681, 2)
 abbrev pub is_open : Block → Bool
 is_open b = not (is_listen b.state || is_syn_received b.state)

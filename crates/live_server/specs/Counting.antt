@@ -18,6 +18,7 @@ no_counts = record {
   unanswered = 0;
   late = 0;
   over_full = 0;
+  shortened = 0;
 }
 
 -- so many more, modulo 2^64

@@ -3,14 +3,21 @@ use Rattle.std.specs.Prelude.{◌≡◌, ℕ, ◌≤◌, ◌⊎◌, ◌||◌, Bo
 use Rattle.std.specs.List.{IsDistinct}
 use Rattle.std.specs.Map.{keys_of, lookup}
 use Rattle.std.specs.Option.{option_map_or}
+use Rattle.icmp_codec.specs.TooLong.{too_long_in}
+use Rattle.icmp_codec.specs.declared.too_long.TooLong.{TooLong}
+use Rattle.segment_codec.specs.Packet.{packet_in}
 use Rattle.segment_codec.specs.Refusal.{tuple_of}
+use Rattle.segment_codec.specs.declared.packet.Packet.TheVariants.{Segment}
 use Rattle.segment_codec.specs.declared.packet.Reply.{Reply}
 use Rattle.segment_codec.specs.declared.packet.Seg.{Seg}
+use Rattle.sq_base.specs.declared.kinds.Link.TheVariants.{RawIp}
 use Rattle.sq_base.specs.declared.kinds.Tuple.{Tuple}
 use Rattle.live_server.specs.Acts.{datagram_of, emptied, is_half_open, is_over, reached, receives}
+use Rattle.live_server.specs.Addresses.{is_to_us}
 use Rattle.live_server.specs.Initial.{number_for}
 use Rattle.live_server.specs.Leaving.{is_leaving, shed_ends, without_leaving}
-use Rattle.live_server.specs.Serving.{ServerOf, heeded, heeded_text, is_tight, makes_place, on_segment, on_time, timed}
+use Rattle.live_server.specs.PathMtu.{path_told, text_in_mtu}
+use Rattle.live_server.specs.Serving.{ServerOf, heeded, heeded_text, makes_place, on_segment, on_time, on_too_long, passes_over, timed, measures_of}
 use Rattle.live_server.specs.Table.{Conns, all_reached, tuple_eq, without_over}
 use Rattle.live_server.specs.declared.acting.Datagram.{Datagram}
 use Rattle.live_server.specs.declared.conn.Conn.{Conn}
@@ -61,7 +68,7 @@ OwnEntryGivesWay = (q : Tuple) (sv : ServerOf) (c : Conn) → IsTable sv → con
 
 -- who is neither over at a tick nor to leave
 abbrev pub staying : ℕ → ServerOf → Conns
-staying now sv = without_leaving sv.setting now (without_over (all_reached (is_tight sv) now sv.conns))
+staying now sv = without_leaving sv.setting now (without_over (all_reached (measures_of sv) now sv.conns))
 
 -- of those the one that leaves for others
 abbrev pub is_shed : ℕ → ServerOf → Tuple → Bool
@@ -72,7 +79,7 @@ abbrev pub TimeLeaves : Type 0
 TimeLeaves = (now : ℕ) (q : Tuple) (sv : ServerOf) (c : Conn) → IsTable sv → conn_of q sv ≡ Some c
     → conn_of q (on_time now sv).server
     ≡ (if is_over (timed now sv c)
-    || (is_leaving sv.setting now (length (without_over (all_reached (is_tight sv) now sv.conns))) (emptied (timed now sv c)) || is_shed now sv q) then None
+    || (is_leaving sv.setting now (length (without_over (all_reached (measures_of sv) now sv.conns))) (emptied (timed now sv c)) || is_shed now sv q) then None
     else Some (emptied (timed now sv c)))
 
 -- where memory was missing, the connection of two ends is gone, and every other one stays
@@ -83,6 +90,12 @@ Loses t before after = IsTable before → IsTable after × (conn_of t after ≡ 
 abbrev pub Costs : Seg → ServerOf → ServerOf → Type 0
 Costs s before after = Loses (tuple_of s) before after ⊎ (after.conns ≡ before.conns)
 
+-- What a datagram costs there: a segment its own connection at most; so does what a router says of a segment; and any other one nothing
+abbrev pub CostsOf : List ℕ → ServerOf → ServerOf → Type 0
+CostsOf body before after =
+    ((s : Seg) × (packet_in RawIp body true ≡ Segment s) × Costs s before after)
+    ⊎ (((x : TooLong) × (too_long_in body ≡ Some x) × Loses x.ends before after) ⊎ (after ≡ before))
+
 -- and what the server was started with stays
 abbrev pub KeepsStart : ServerOf → ServerOf → Type 0
 KeepsStart before after = (after.setting ≡ before.setting) × (after.secret ≡ before.secret)
@@ -91,6 +104,19 @@ KeepsStart before after = (after.setting ≡ before.setting) × (after.secret �
 abbrev pub LosesOne : ℕ → ServerOf → ServerOf → Type 0
 LosesOne now before after = IsTable before → IsTable after × ((t : Tuple) × (conn_of t after ≡ None) × ((q : Tuple) → tuple_eq t q ≡ false
     → (conn_of q after ≡ conn_of q before) ⊎ (conn_of q after ≡ option_map (λ c. emptied (timed now before c)) (conn_of q before))))
+
+-- What a router says of a segment that was too long is told to the segment's own connection, and only where it is for us. All others stay, and
+-- what is sent goes to its two ends
+pub record IsApart (x : TooLong) (sv : ServerOf) : Type 0 where
+  pub table : IsTable (on_too_long x sv).server
+  pub own : (c : Conn) → is_to_us sv.setting x.src x.dst ≡ true → conn_of x.ends sv ≡ Some c
+      → conn_of x.ends (on_too_long x sv).server ≡ kept_as (path_told x.seq (text_in_mtu x.mtu) c)
+  pub astray : is_to_us sv.setting x.src x.dst ≡ false → on_too_long x sv ≡ passes_over sv
+  pub others : (q : Tuple) → tuple_eq x.ends q ≡ false → conn_of q (on_too_long x sv).server ≡ conn_of q sv
+  pub sent : All (λ (d : Datagram). (r : Reply) × (d ≡ datagram_of x.ends r)) (on_too_long x sv).sent
+
+abbrev pub TooLongIsApart : Type 0
+TooLongIsApart = (x : TooLong) (sv : ServerOf) → IsTable sv → IsApart x sv
 
 -- what is sent for a segment goes to its own ends
 abbrev pub AnswersItsEnds : Type 0

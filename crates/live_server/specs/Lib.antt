@@ -5,13 +5,16 @@ pub mod Congestion
 pub mod DaytimeText
 pub mod Services
 pub mod Acts
+pub mod PathMtu
 pub mod Counting
 pub mod Table
 pub mod Leaving
 pub mod Candidates
 pub mod Facts
+pub mod Orders
 pub mod Serving
 pub mod Isolation
 pub mod Promises
+pub mod Draining
 pub mod Frames
 pub mod Told

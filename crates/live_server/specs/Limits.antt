@@ -1,4 +1,4 @@
--- The limits of frames, of challenges, and of connections that aren't heard any more.
+-- The limits of frames, of datagrams, of challenges, and of connections that aren't heard any more.
 use Rattle.std.specs.Prelude.{ℕ}
 
 -- the bytes of a frame before its body
@@ -8,6 +8,10 @@ frame_head = 16
 -- the most bytes of a body: the longest IPv4 datagram
 abbrev pub most_body : ℕ
 most_body = 65535
+
+-- the headers of a segment that is sent with text: IPv4's and TCP's, without options
+abbrev pub header_bytes : ℕ
+header_bytes = 40
 
 -- a connection sends one challenge in so many microseconds
 abbrev pub challenge_interval : ℕ

@@ -6,23 +6,27 @@ use Rattle.byte_queues.specs.ReceiveQueue.{front}
 use Rattle.segment_codec.specs.ControlBits.{syn}
 use Rattle.segment_codec.specs.Refusal.{tuple_of}
 use Rattle.segment_codec.specs.declared.packet.Seg.{Seg}
+use Rattle.sq_base.specs.SerialOrder.{dist}
 use Rattle.sq_base.specs.declared.kinds.Tuple.{Tuple}
 use Rattle.tcb_machine.specs.BlockState.{Block, has, held_in, one_if, rcv_nxt, rcv_wnd}
-use Rattle.tcb_machine.specs.Limits.{least_mss}
+use Rattle.tcb_machine.specs.Limits.{default_mss, least_mss}
 use Rattle.tcb_machine.specs.Output.{output}
+use Rattle.tcb_machine.specs.Shortening.{shortening}
 use Rattle.tcb_machine.specs.TcpStep.{with_window}
 use Rattle.tcb_machine.specs.Validity.{IsValid}
 use Rattle.live_server.specs.Acts.{emptied, is_over, judged, new_conn, reached, receives, ticked}
-use Rattle.live_server.specs.Congestion.{eased, flight, no_congestion, seen, seen_window, timed_out}
+use Rattle.live_server.specs.Congestion.{eased, flight, no_congestion, restarted, seen, seen_window, timed_out}
 use Rattle.live_server.specs.Isolation.{IsTable, conn_of, staying}
 use Rattle.live_server.specs.Leaving.{keeps_out, share}
 use Rattle.live_server.specs.Limits.{challenge_interval}
+use Rattle.live_server.specs.PathMtu.{is_heeded, path_told, text_in_mtu}
 use Rattle.live_server.specs.Serving.{ServerOf, heeded_text, is_tight, limited, on_segment, on_time}
 use Rattle.live_server.specs.Table.{held_by, tuple_eq}
 use Rattle.live_server.specs.declared.congestion.Congestion.{Congestion}
 use Rattle.live_server.specs.declared.conn.Conn.{Conn}
 use Rattle.live_server.specs.declared.conn.Judged.{Judged}
 use Rattle.live_server.specs.declared.conn.Judged.TheVariants.{Challenged, Late, Taken, Unanswered}
+use Rattle.live_server.specs.declared.measures.Measures.{Measures}
 use Rattle.live_server.specs.declared.service.LiveService.{LiveService}
 
 -- ---- text
@@ -42,7 +46,8 @@ TimeCountsAnew = (now : ℕ) (sv : ServerOf) → (on_time now sv).server.held �
 -- A tick takes from a connection no text in order: what it acknowledged stays acknowledged, and its window stays
 abbrev pub TickKeepsOrder : Type 0
 TickKeepsOrder = (tight : Bool) (now : ℕ) (c : Conn)
-    → (rcv_nxt (ticked tight now c).tcb ≡ rcv_nxt (reached now c).tcb) × (rcv_wnd (ticked tight now c).tcb ≡ rcv_wnd (reached now c).tcb)
+    → (rcv_nxt (ticked (record { tight = tight; draining = false }) now c).tcb ≡ rcv_nxt (reached now c).tcb)
+    × (rcv_wnd (ticked (record { tight = tight; draining = false }) now c).tcb ≡ rcv_wnd (reached now c).tcb)
 
 -- and where it is tight, none holds text behind a gap any more
 abbrev pub TightHoldsOrder : Type 0
@@ -53,11 +58,11 @@ TightHoldsOrder = (now : ℕ) (sv : ServerOf) (q : Tuple) (c : Conn) → IsTable
 -- what comes to one connection: a segment, with the initial number for one that opens, or the time at a tick
 pub data Coming : Type 0 where
   segment : ℕ → ℕ → Seg → List ℕ → Coming
-  time : Bool → ℕ → Coming
+  time : Measures → ℕ → Coming
 
 abbrev pub came : Coming → Conn → Conn
 came (segment now iss s text) c = emptied (receives now iss s text (emptied (reached now c)))
-came (time tight now) c = emptied (ticked tight now c)
+came (time measures now) c = emptied (ticked measures now c)
 
 -- whether the connection is challenged then, and when
 abbrev pub when_challenged : ℕ → Judged → List ℕ
@@ -68,7 +73,7 @@ when_challenged now Late = []
 
 abbrev pub challenge_at : Coming → Conn → List ℕ
 challenge_at (segment now iss s text) c = when_challenged now (judged now s text (emptied (reached now c)))
-challenge_at (time tight now) c = []
+challenge_at (time measures now) c = []
 
 -- the moments of all its challenges
 abbrev pub challenges : List Coming → Conn → List ℕ
@@ -145,6 +150,9 @@ SegmentKeepsWide = (s : Seg) (text : List ℕ) (b : Block) (x : Congestion) → 
 abbrev pub TimeoutIsWide : Type 0
 TimeoutIsWide = (b : Block) (x : Congestion) → IsWide b (timed_out b x)
 
+abbrev pub RestartIsWide : Type 0
+RestartIsWide = (most : ℕ) (b : Block) (x : Congestion) → IsWide b x → IsWide (shortening most b) (restarted (shortening most b) x)
+
 -- the window that a block is shown is no wider than cwnd, but for one unit of its scale, which keeps it open; nor than the peer's
 abbrev pub ShownIsNarrow : Type 0
 ShownIsNarrow = (s : Seg) (b : Block) (x : Congestion) → has s.flags syn ≡ false
@@ -177,4 +185,24 @@ abbrev pub SegmentKeepsShort : Type 0
 SegmentKeepsShort = (now iss : ℕ) (s : Seg) (text : List ℕ) (c : Conn) → IsValid c.tcb → IsShort c → IsShort (receives now iss (limited c.most s) text c)
 
 abbrev pub TimeKeepsShort : Type 0
-TimeKeepsShort = (tight : Bool) (now : ℕ) (c : Conn) → IsValid c.tcb → IsShort c → IsShort (ticked tight now c)
+TimeKeepsShort = (measures : Measures) (now : ℕ) (c : Conn) → IsValid c.tcb → IsShort c → IsShort (ticked measures now c)
+
+-- and where it isn't over, any segment does: who has a place has agreed
+abbrev pub PlacedStaysShort : Type 0
+PlacedStaysShort = (now iss : ℕ) (s : Seg) (text : List ℕ) (c : Conn) → is_over c ≡ false → IsValid c.tcb → IsShort c
+    → IsShort (receives now iss s text c) × ((receives now iss s text c).most ≡ c.most)
+
+-- ---- a path that takes shorter datagrams
+-- Behind a router's message that is heeded, no segment of the connection has more text than the path takes, or 536, from what is sent for it on
+abbrev pub HeededIsShort : Type 0
+HeededIsShort = (seq mtu : ℕ) (c : Conn) → c.tcb.replies ≡ [] → is_heeded seq (text_in_mtu mtu) c ≡ true
+    → IsShort (path_told seq (text_in_mtu mtu) c) × ((path_told seq (text_in_mtu mtu) c).most ≡ text_in_mtu mtu)
+
+-- whoever sends one: segments get no longer, and no shorter than 536 bytes, or than they were
+abbrev pub PathIsBounded : Type 0
+PathIsBounded = (seq mtu : ℕ) (c : Conn)
+    → ((path_told seq (text_in_mtu mtu) c).tcb.agreed.mss ≤ c.tcb.agreed.mss) × (min default_mss c.tcb.agreed.mss ≤ (path_told seq (text_in_mtu mtu) c).tcb.agreed.mss)
+
+-- and where no segment of this number is under way, nothing changes
+abbrev pub UnsentIsIgnored : Type 0
+UnsentIsIgnored = (seq mtu : ℕ) (c : Conn) → flight c.tcb ≤ dist c.tcb.una seq → path_told seq (text_in_mtu mtu) c ≡ c

@@ -1,6 +1,6 @@
 -- What a server makes of a datagram and of the time.
 use Rattle.std.specs.Prelude.{ℕ, ◌+◌, ◌-◌, ◌/◌, ◌^◌, ◌==◌, min, nat_le, nat_lt, ◌&&◌, not, bit_and, Bool, true, Option, None, Some, unwrap_or, List}
-use Rattle.std.specs.Prelude.{[], ◌∷◌, ◌++◌, length, if◌then◌else◌}
+use Rattle.std.specs.Prelude.{[], ◌∷◌, ◌++◌, bytes_eq, codes, length, if◌then◌else◌}
 use Rattle.std.specs.List.{flat_map}
 use Rattle.std.specs.Option.{option_map_or}
 use Rattle.segment_codec.specs.Packet.{packet_in}
@@ -12,33 +12,42 @@ use Rattle.segment_codec.specs.declared.packet.Seg.{Seg}
 use Rattle.tcb_machine.specs.Limits.{default_mss}
 use Rattle.sq_base.specs.declared.kinds.Link.TheVariants.{RawIp}
 use Rattle.sq_base.specs.declared.kinds.Tuple.{Tuple}
+use Rattle.udp_codec.specs.ReadAgain.{text_in as ordered_text}
 use Rattle.live_server.specs.Acts.{datagram_of, emptied, is_half_open, is_over, judged, new_conn, reached, receives, sent_by, ticked}
 use Rattle.icmp_codec.specs.EchoReply.{pong_bytes}
 use Rattle.icmp_codec.specs.EchoRequest.{PingOf, ping_in}
+use Rattle.icmp_codec.specs.TooLong.{too_long_in}
+use Rattle.icmp_codec.specs.declared.too_long.TooLong.{TooLong}
 use Rattle.live_server.specs.Addresses.{is_for_us, is_to_us}
 use Rattle.live_server.specs.Counting.{counting_judged, more}
 use Rattle.live_server.specs.Initial.{number_for}
 use Rattle.live_server.specs.Leaving.{and_turned, without_leaving, without_shed}
+use Rattle.live_server.specs.PathMtu.{shortens, text_in_mtu}
+use Rattle.live_server.specs.Orders.{order_in}
 use Rattle.live_server.specs.Services.{is_served_at, service_at}
 use Rattle.live_server.specs.Table.{Conns, all_reached, conn_at, held_by, place_of, replaced, without, without_over}
 use Rattle.live_server.specs.declared.acting.Datagram.{Datagram}
 use Rattle.live_server.specs.declared.conn.Conn.{Conn}
 use Rattle.live_server.specs.declared.conn.Judged.{Judged}
+use Rattle.live_server.specs.declared.conn.Met.{Met}
+use Rattle.live_server.specs.declared.conn.Met.TheVariants.{Gone, Judged as judges}
 use Rattle.live_server.specs.declared.counts.Counts.{Counts}
 use Rattle.live_server.specs.declared.crowding.TurnedAway.{TurnedAway}
 use Rattle.live_server.specs.declared.crowding.TurnedAway.TheVariants.{Nobody}
+use Rattle.live_server.specs.declared.measures.Measures.{Measures}
 use Rattle.live_server.specs.declared.rules.Rules.{Rules}
 use Rattle.live_server.specs.declared.setting.Setting.{Setting}
 
 -- the connections; the ends and the number of those that were opened last, which may be half open, by age; how many bytes all held when
 -- the time last came to them, with the text that came since; how many echo requests were answered since then, and who was turned away;
--- what it was started with; what it met
+-- whether it drains; what it was started with; what it met
 pub record ServerOf : Type 0 where
   pub conns : Conns
   pub waiting : List (Tuple × ℕ)
   pub held : ℕ
   pub pings : ℕ
   pub turned : TurnedAway
+  pub draining : Bool
   pub setting : Setting
   pub secret : List ℕ
   pub counts : Counts
@@ -51,6 +60,7 @@ server_of conns r = record {
   held = r.held;
   pings = r.pings;
   turned = r.turned;
+  draining = r.draining;
   setting = r.setting;
   secret = r.secret.0;
   counts = r.counts;
@@ -139,11 +149,22 @@ takes_place t c sv = if has_place sv then takes_free t c sv else turns_away t sv
 abbrev pub sends_of : Tuple → Conn → ServerOf → Outcome
 sends_of t c sv = record { server = sv; sent = sent_by t c }
 
--- a segment of a connection that has no place: it takes one, unless it is over at once
-unfoldable pub opens : ℕ → Seg → List ℕ → ServerOf → Outcome
-opens now s text sv =
+-- a connection takes a place, unless it is over at once
+unfoldable pub admits : ℕ → Seg → List ℕ → ServerOf → Outcome
+admits now s text sv =
     let c = served now s text sv (new_conn (service_at sv.setting now s.dst_port) sv.setting.segment now) in
     if is_over c then sends_of (tuple_of s) c sv else takes_place (tuple_of s) c (makes_place sv)
+
+-- a segment elsewhere is answered by a reset (RFC 9293, 3.10.7.1)
+abbrev pub refused : ℕ → Seg → List Datagram
+refused now s = option_map_or (λ r. datagram_of (tuple_of s) r ∷ []) (refusal_of now s) []
+
+abbrev pub refuses : ℕ → Seg → ServerOf → Outcome
+refuses now s sv = record { server = record sv { counts = record sv.counts { refused = more 1 sv.counts.refused } }; sent = refused now s }
+
+-- a segment of a connection that has no place; where the server drains none opens any more
+unfoldable pub opens : ℕ → Seg → List ℕ → ServerOf → Outcome
+opens now s text sv = if sv.draining then refuses now s sv else admits now s text sv
 
 unfoldable pub comes : ℕ → Seg → List ℕ → ServerOf → Outcome
 comes now s text sv = option_map_or (λ place. goes_on now s text place sv) (place_of (tuple_of s) sv.conns) (opens now s text sv)
@@ -186,10 +207,6 @@ on_segment now s text sv = then_sends (time_to now (tuple_of s) sv) (heeds now s
 unfoldable pub arrives : ℕ → Seg → List ℕ → ServerOf → Outcome
 arrives now s text sv = then_sends (time_to now (tuple_of s) sv) (comes now s text)
 
--- a segment elsewhere is answered by a reset (RFC 9293, 3.10.7.1)
-abbrev pub refused : ℕ → Seg → List Datagram
-refused now s = option_map_or (λ r. datagram_of (tuple_of s) r ∷ []) (refusal_of now s) []
-
 abbrev pub passes_over : ServerOf → Outcome
 passes_over sv = sends_nothing (record sv { counts = record sv.counts { passed_over = more 1 sv.counts.passed_over } })
 
@@ -202,7 +219,7 @@ unfoldable pub addressed : ℕ → Seg → List ℕ → ServerOf → Outcome
 addressed now s text sv =
     if not (is_for_us sv.setting s) then sends_nothing (record sv { counts = record sv.counts { astray = more 1 sv.counts.astray } })
     else if is_served_at sv.setting.ports s.dst_port then on_segment now (limited sv.setting.segment s) text sv
-    else record { server = record sv { counts = record sv.counts { refused = more 1 sv.counts.refused } }; sent = refused now s }
+    else refuses now s sv
 
 -- an echo request is answered (RFC 1122, 3.2.2.6)
 abbrev pub echoes : ℕ → PingOf → ServerOf → Outcome
@@ -215,14 +232,39 @@ echoes now p sv = record {
 unfoldable pub is_echoed : PingOf → ServerOf → Bool
 is_echoed p sv = is_to_us sv.setting p.src p.dst && nat_lt sv.pings sv.setting.pings
 
+-- a router's message is heeded, or passed over
+abbrev pub counting_path : Met → ServerOf → ServerOf
+counting_path (judges j) sv = record sv { counts = record sv.counts { shortened = more 1 sv.counts.shortened } }
+counting_path Gone sv = (passes_over sv).server
+
+-- it comes to the connection at a place
+unfoldable pub shortens_at : TooLong → ℕ → ServerOf → Outcome
+shortens_at x place sv =
+    let m = shortens x.seq (text_in_mtu x.mtu) x.ends (conn_at place sv.conns) in
+    becomes place x.ends m.conn (counting_path m.met sv)
+
+-- where it is for us, and the segment was of a connection that stands here
+unfoldable pub on_too_long : TooLong → ServerOf → Outcome
+on_too_long x sv =
+    if is_to_us sv.setting x.src x.dst then option_map_or (λ place. shortens_at x place sv) (place_of x.ends sv.conns) (passes_over sv)
+    else passes_over sv
+
 -- another protocol's datagram
 unfoldable pub on_other : ℕ → Option PingOf → ServerOf → Outcome
 on_other now None sv = passes_over sv
 on_other now (Some p) sv = if is_echoed p sv then echoes now p sv else passes_over sv
 
+-- an order of the host: it drains from now on, whatever comes later. Other texts say nothing
+unfoldable pub obeys : List ℕ → ServerOf → Outcome
+obeys text sv = if bytes_eq text (codes "drain") then sends_nothing (record sv { draining = true }) else passes_over sv
+
+-- another protocol's datagram: an order, or not
+unfoldable pub on_protocol : ℕ → List ℕ → ServerOf → Outcome
+on_protocol now body sv = option_map_or (λ u. obeys (ordered_text u body) sv) (order_in sv.setting body) (on_other now (ping_in body) sv)
+
 unfoldable pub on_packet : ℕ → List ℕ → Packet → ServerOf → Outcome
 on_packet now body (packet.Segment s) sv = addressed now s (text_in s body) sv
-on_packet now body packet.Other sv = on_other now (ping_in body) sv
+on_packet now body packet.Other sv = option_map_or (λ x. on_too_long x sv) (too_long_in body) (on_protocol now body sv)
 on_packet now body packet.Fragment sv = passes_over sv
 on_packet now body packet.Cut sv = passes_over sv
 on_packet now body (packet.Malformed why) sv = passes_over sv
@@ -236,14 +278,18 @@ on_datagram now body sv = on_packet now body (packet_in RawIp body true) sv
 unfoldable pub is_tight : ServerOf → Bool
 is_tight sv = nat_le (sv.setting.bytes - sv.setting.bytes / 4) sv.held
 
+-- what is asked of each connection at a tick
+abbrev pub measures_of : ServerOf → Measures
+measures_of sv = record { tight = is_tight sv; draining = sv.draining }
+
 -- what a tick makes of a connection
 abbrev pub timed : ℕ → ServerOf → Conn → Conn
-timed now sv c = ticked (is_tight sv) now c
+timed now sv c = ticked (measures_of sv) now c
 
 -- the time comes to every connection, and who is to leave does
 unfoldable pub on_time : ℕ → ServerOf → Outcome
 on_time now sv =
-    let here = without_over (all_reached (is_tight sv) now sv.conns) in
+    let here = without_over (all_reached (measures_of sv) now sv.conns) in
     let kept = without_shed sv.setting sv.turned (without_leaving sv.setting now here) in
     record {
       server = record sv { conns = kept; held = held_by kept; pings = 0; turned = Nobody; counts = record sv.counts { left = more (length here - length kept) sv.counts.left } };

@@ -8,6 +8,7 @@ use Rattle.tcb_machine.specs.BlockState.{held_in}
 use Rattle.live_server.specs.Acts.{emptied, is_over, no_conn, ticked}
 use Rattle.indexmap.specs.IndexMap.{set_value_at}
 use Rattle.live_server.specs.declared.conn.Conn.{Conn}
+use Rattle.live_server.specs.declared.measures.Measures.{Measures}
 
 abbrev pub Conns : Type 0
 Conns = List (Tuple × Conn)
@@ -40,12 +41,12 @@ unfoldable pub replaced : ℕ → Conn → Conns → Conns
 replaced place c cs = settled place (set_value_at cs place (emptied c))
 
 -- the time comes to each at a tick
-abbrev pub all_reached : Bool → ℕ → Conns → Conns
-all_reached tight now cs = map (λ c. (c.0, emptied (ticked tight now c.1))) cs
+abbrev pub all_reached : Measures → ℕ → Conns → Conns
+all_reached m now cs = map (λ c. (c.0, emptied (ticked m now c.1))) cs
 
 -- and to the first so many
-abbrev pub reached_until : Bool → ℕ → ℕ → Conns → Conns
-reached_until tight now i cs = all_reached tight now (take i cs) ++ drop i cs
+abbrev pub reached_until : Measures → ℕ → ℕ → Conns → Conns
+reached_until m now i cs = all_reached m now (take i cs) ++ drop i cs
 
 -- those that are over leave
 unfoldable pub without_over : Conns → Conns

@@ -10,8 +10,10 @@ use Rattle.segment_codec.specs.declared.packet.Packet.TheVariants as packet
 use Rattle.segment_codec.specs.declared.packet.Seg.{Seg}
 use Rattle.sq_base.specs.declared.kinds.Link.TheVariants.{RawIp}
 use Rattle.sq_base.specs.declared.kinds.Tuple.{Tuple}
+use Rattle.icmp_codec.specs.TooLong.{too_long_in}
+use Rattle.icmp_codec.specs.declared.too_long.TooLong.{TooLong}
 use Rattle.live_server.specs.Acts.{is_over, new_conn}
-use Rattle.live_server.specs.Addresses.{is_for_us}
+use Rattle.live_server.specs.Addresses.{is_for_us, is_to_us}
 use Rattle.live_server.specs.Frames.{FrameOf, on_frame}
 use Rattle.live_server.specs.Services.{is_served_at, service_at}
 use Rattle.live_server.specs.Serving.{ServerOf, has_place, heeded, heeded_text, limited, makes_place, noting, served, time_to}
@@ -31,11 +33,15 @@ told_its_own t sv = option_map_or (λ place. hears t ∷ []) (place_of t sv.conn
 unfoldable pub told_taking : Tuple → ServerOf → List Told
 told_taking t sv = if has_place sv then begins t ∷ [] else []
 
--- one begins where a segment finds none, unless it is over at once
-unfoldable pub told_opening : ℕ → Seg → List ℕ → ServerOf → List Told
-told_opening now s text sv =
+-- one begins, unless it is over at once
+unfoldable pub told_admitting : ℕ → Seg → List ℕ → ServerOf → List Told
+told_admitting now s text sv =
     let c = served now s text sv (new_conn (service_at sv.setting now s.dst_port) sv.setting.segment now) in
     if is_over c then [] else told_taking (tuple_of s) (makes_place sv)
+
+-- so it is where a segment finds none, and the server doesn't drain
+abbrev pub told_opening : ℕ → Seg → List ℕ → ServerOf → List Told
+told_opening now s text sv = if sv.draining then [] else told_admitting now s text sv
 
 unfoldable pub told_coming : ℕ → Seg → List ℕ → ServerOf → List Told
 told_coming now s text sv = option_map_or (λ place. []) (place_of (tuple_of s) sv.conns) (told_opening now s text sv)
@@ -56,9 +62,16 @@ told_addressed now s text sv =
     else if is_served_at sv.setting.ports s.dst_port then told_segment now (limited sv.setting.segment s) text sv
     else []
 
+-- the connection of a segment that was too long for a path hears it
+unfoldable pub told_too_long : TooLong → ServerOf → List Told
+told_too_long x sv = if is_to_us sv.setting x.src x.dst then told_its_own x.ends sv else []
+
+unfoldable pub told_other : List ℕ → ServerOf → List Told
+told_other body sv = option_map_or (λ x. told_too_long x sv) (too_long_in body) []
+
 unfoldable pub told_packet : ℕ → List ℕ → Packet → ServerOf → List Told
 told_packet now body (packet.Segment s) sv = told_addressed now s (text_in s body) sv
-told_packet now body packet.Other sv = []
+told_packet now body packet.Other sv = told_other body sv
 told_packet now body packet.Fragment sv = []
 told_packet now body packet.Cut sv = []
 told_packet now body (packet.Malformed why) sv = []

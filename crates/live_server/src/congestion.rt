@@ -4,7 +4,7 @@
 ghost use Rattle.std.specs.Prelude.{◌≡◌, ◌+◌, ◌*◌, ◌≤◌, not, nat_lt, if◌then◌else◌};
 ghost use Rattle.sq_base.specs.SerialOrder.{dist};
 ghost use Rattle.live_server.specs.Congestion.{bounded, calls_again, eased, flight, grown, halved, is_duplicate, is_fresh};
-ghost use Rattle.live_server.specs.Congestion.{is_open, no_congestion, reaches, recovers, reopens, repeated, seen, seen_window, segments, timed_out, tolerance};
+ghost use Rattle.live_server.specs.Congestion.{is_open, no_congestion, reaches, recovers, reopens, repeated, restarted, seen, seen_window, segments, timed_out, tolerance};
 
 use segment_codec::{ACK, FIN, RST, SYN, Seg};
 use sq_base::seq_dist;
@@ -124,6 +124,21 @@ impl Congestion {
         self.recover = tcb.snd_nxt();
     }
 
+    /// A router dropped what was too long for the path (RFC 1191, 6.4).
+    #[tactic(auto, unfolding(crate::specs::Congestion::restarted))]
+    pub fn restart(&mut self, tcb: &Tcb)
+        ensures { self.new ≡ restarted tcb.now self.old }
+    {
+        let mss = u32::from(tcb.mss());
+        if !self.recovering {
+            self.threshold = self.window.max(2 * mss);
+        }
+        self.window = mss;
+        self.duplicates = 0;
+        self.recovering = true;
+        self.recover = tcb.snd_nxt();
+    }
+
     /// New bytes are acknowledged.
     fn acknowledge(&mut self, tcb: &Tcb, seg: &Seg)
         ensures { self.new ≡ (if self.old.recovering then recovers (dist tcb.now.una seg.now.ack) seg.now tcb.now self.old
@@ -216,14 +231,14 @@ fn is_fresh(tcb: &Tcb, seg: &Seg) -> bool
     seg.flags & ACK != 0 && is_open(tcb) && count > 0 && count <= flight(tcb)
 }
 
-fn is_open(tcb: &Tcb) -> bool
+pub(crate) fn is_open(tcb: &Tcb) -> bool
     ensures { result ≡ is_open tcb.now }
 {
     !matches!(tcb.state(), State::Listen | State::SynReceived)
 }
 
 /// How many sequence numbers were sent and aren't acknowledged.
-fn flight(tcb: &Tcb) -> u32
+pub(crate) fn flight(tcb: &Tcb) -> u32
     ensures { result ≡ flight tcb.now }
 {
     seq_dist(tcb.snd_una(), tcb.snd_nxt())

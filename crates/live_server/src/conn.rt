@@ -1,7 +1,7 @@
 //! One connection: its block, and what the server keeps beside it.
 
 ghost use Rattle.std.specs.Prelude.{◌≡◌, ◌++◌, ◌≤◌, IfOk, OnOk};
-ghost use Rattle.live_server.specs.Acts.{after, emptied, has_room, is_half_open, is_idle, is_outside, is_over, judged, meets};
+ghost use Rattle.live_server.specs.Acts.{after, closed, emptied, has_room, is_half_open, is_idle, is_outside, is_over, judged, meets};
 ghost use Rattle.live_server.specs.Acts.{new_conn, oldest_ack, provokes, pruned, reached, receives, renewed, resent, sent_by, taken, takes, ticked};
 ghost use Rattle.live_server.specs.Facts.{facts_of};
 ghost use Rattle.live_server.specs.Leaving.{is_given_up};
@@ -12,12 +12,13 @@ ghost use Rattle.tcb_machine.specs.Limits.{last_time};
 use crate::acting::{Datagram, announced};
 use crate::congestion::Congestion;
 use crate::facts::Facts;
+use crate::measures::Measures;
 use crate::service::LiveService;
 use echo_services::{serve, tick};
 use segment_codec::{ACK, RST, SYN, Seg};
 use sq_base::{Tuple, seq_dist};
 use std::alloc::{AllocError, Global};
-use tcb_machine::{State, Tcb};
+use tcb_machine::{Call, Next, State, Tcb};
 
 /// A connection sends one challenge in so many microseconds (RFC 5961, 7).
 const CHALLENGE_INTERVAL: u64 = 500_000;
@@ -56,10 +57,10 @@ pub enum Judged {
     Late,
 }
 
-/// What a segment meets at a connection to which the time comes first.
+/// What a segment meets at a connection to which the time comes first, or what a router says of one.
 #[derive(Clone, Copy, Debug, PartialEq, Eq)]
 pub enum Met {
-    /// Nobody: the time ended the connection.
+    /// Nobody: the time ended the connection, or what a router says isn't of what is under way.
     Gone,
     /// The connection, which judged it.
     Judged(Judged),
@@ -258,22 +259,23 @@ impl Conn {
         self.send(alloc, tuple, out)
     }
 
-    /// The same at a tick: where the memory for text is tight, what the block holds behind a gap is forgotten. After an error nothing more
-    /// is promised of the connection.
+    /// The same at a tick: where the server drains, it closes; where the memory for text is tight, what the block holds behind a gap is
+    /// forgotten. After an error nothing more is promised of the connection.
     pub fn tick(
         &mut self,
         alloc: Global,
-        tight: bool,
+        measures: Measures,
         now: u64,
         tuple: &Tuple,
         out: &mut Vec<Datagram>,
     ) -> Result<(), AllocError>
         requires { now ≤ last_time }
-        ensures conn { OnOk result (self.new ≡ emptied (ticked tight now self.old)) }
-        ensures sent { OnOk result (out.new.items ≡ out.old.items ++ sent_by tuple.now (ticked tight now self.old)) }
+        ensures conn { OnOk result (self.new ≡ emptied (ticked measures now self.old)) }
+        ensures sent { OnOk result (out.new.items ≡ out.old.items ++ sent_by tuple.now (ticked measures now self.old)) }
     {
         self.reach(alloc, now)?;
-        prune(&mut self.tcb, tight);
+        close(&mut self.tcb, alloc, measures.draining)?;
+        prune(&mut self.tcb, measures.tight);
         self.send(alloc, tuple, out)
     }
 
@@ -325,6 +327,20 @@ impl Conn {
     }
 }
 
+/// Where the server drains, a block closes. After an error nothing more is promised of it.
+#[tactic(auto, unfolding(crate::specs::Acts::closed))]
+fn close(tcb: &mut Tcb, alloc: Global, draining: bool) -> Result<(), AllocError>
+    ensures { OnOk result (tcb.new ≡ closed draining tcb.old) }
+{
+    if !draining {
+        return Ok(());
+    }
+    match tcb.call(alloc, Call::Close)?.1 {
+        Next::Over => Ok(()),
+        Next::Go => tcb.output(alloc),
+    }
+}
+
 /// Where the memory for text is tight, a block forgets what it holds behind a gap.
 fn prune(tcb: &mut Tcb, tight: bool)
     ensures { tcb.new ≡ pruned tight tcb.old }
@@ -346,7 +362,7 @@ fn renew(tcb: &mut Tcb, una: u32, field: u16)
 
 /// The first segment that isn't acknowledged is sent again.
 #[tactic(auto, unfolding(crate::specs::Acts::resent))]
-fn resend(tcb: &mut Tcb, alloc: Global, again: bool) -> Result<(), AllocError>
+pub(crate) fn resend(tcb: &mut Tcb, alloc: Global, again: bool) -> Result<(), AllocError>
     ensures { OnOk result (tcb.new ≡ resent again tcb.old) }
 {
     if again && !matches!(tcb.state(), State::Listen) && tcb.snd_una() != tcb.snd_nxt() {

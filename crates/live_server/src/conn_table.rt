@@ -1,20 +1,23 @@
 //! What the rules of a server ask of the table that keeps its connections.
 
-ghost use Rattle.std.specs.Prelude.{◌≡◌, ℕ, Bool, List, ◌++◌, ◌<◌, ◌≤◌, [], ◌∷◌, length, map, option_map, slice_get, Some, IfOk, OnErr, OnOk};
+ghost use Rattle.std.specs.Prelude.{◌≡◌, ℕ, List, ◌++◌, ◌<◌, ◌≤◌, [], ◌∷◌, length, map, option_map, slice_get, Some, IfOk, OnErr, OnOk};
 ghost use Rattle.std.specs.List.{flat_map};
 ghost use Rattle.std.specs.Map.{keys_of};
 ghost use Rattle.tcb_machine.specs.Limits.{last_time};
 ghost use Rattle.live_server.specs.Acts.{emptied, meets, sent_by, ticked};
 ghost use Rattle.live_server.specs.Leaving.{peer_of, without_leaving};
+ghost use Rattle.live_server.specs.PathMtu.{shortens};
 ghost use Rattle.live_server.specs.Serving.{is_waiting};
 ghost use Rattle.live_server.specs.Table.{Conns, all_reached, conn_at, held_by, place_of, replaced, without, without_over, IsNew};
 ghost use Rattle.live_server.specs.Told.{Told};
 ghost use Rattle.live_server.specs.Told.Told.{begins, hears};
 ghost use Rattle.live_server.specs.declared.conn.Met.TheVariants.{Gone};
+ghost use Rattle.live_server.specs.declared.measures.Measures.{Measures};
 
 use crate::acting::Datagram;
 use crate::conn::{Conn, Met};
 use crate::crowding::Peer;
+use crate::measures::Measures;
 use crate::setting::Setting;
 use segment_codec::Seg;
 use sq_base::Tuple;
@@ -30,7 +33,7 @@ pub trait ConnTable {
     ghost good: { Self → Type 0 };
 
     /// What a tick leaves where memory was missing, of the connections that there were.
-    ghost spoils: { Bool → ℕ → Conns → Conns → Type 0 };
+    ghost spoils: { Measures → ℕ → Conns → Conns → Type 0 };
 
     /// What the table's connections were told between two moments, one after another.
     ghost tells: { Self → List Told → Self → Type 0 };
@@ -104,22 +107,44 @@ pub trait ConnTable {
         ensures gone { IfOk result (λ m. m ≡ Gone → IsNew tuple.now (conns self.new)) }
         ensures lost { OnErr result (conns self.new ≡ without place (conns self.old)) };
 
-    /// The time comes to each connection in turn, which forgets text behind a gap where memory is tight. What is sent goes behind the datagrams
+    /// A router says to the connection at a place that it dropped the segment with a number, since the next path takes no more than `most`
+    /// bytes of text in one. The connection leaves where memory is missing. What is sent goes behind the datagrams that are there. The
+    /// answer says whether it was heeded: else it met nobody.
+    fn shorten(
+        &mut self,
+        place: usize,
+        alloc: Global,
+        seq: u32,
+        most: u16,
+        tuple: &Tuple,
+        out: &mut Vec<Datagram>,
+    ) -> Result<Met, AllocError>
+        requires good { good self.old }
+        requires place { place_of tuple.now (conns self.old) ≡ Some place }
+        ensures good { good self.new }
+        ensures met { IfOk result (λ m. m ≡ (shortens seq most tuple.now (conn_at place (conns self.old))).met) }
+        ensures table { OnOk result (conns self.new
+            ≡ replaced place (shortens seq most tuple.now (conn_at place (conns self.old))).conn (conns self.old)) }
+        ensures sent { OnOk result (out.new.items ≡ out.old.items ++ (shortens seq most tuple.now (conn_at place (conns self.old))).sent) }
+        ensures told { OnOk result (tells self.old (hears tuple.now ∷ []) self.new) }
+        ensures lost { OnErr result (conns self.new ≡ without place (conns self.old)) };
+
+    /// The time comes to each connection in turn, which does what is asked of all. What is sent goes behind the datagrams
     /// that are there. Who is over stays for now.
     fn reach_all(
         &mut self,
         alloc: Global,
-        tight: bool,
+        measures: Measures,
         now: u64,
         out: &mut Vec<Datagram>,
     ) -> Result<(), AllocError>
         requires good { good self.old }
         requires time { now ≤ last_time }
         ensures good { good self.new }
-        ensures table { OnOk result (conns self.new ≡ all_reached tight now (conns self.old)) }
-        ensures sent { OnOk result (out.new.items ≡ out.old.items ++ flat_map (λ c. sent_by c.0 (ticked tight now c.1)) (conns self.old)) }
+        ensures table { OnOk result (conns self.new ≡ all_reached measures now (conns self.old)) }
+        ensures sent { OnOk result (out.new.items ≡ out.old.items ++ flat_map (λ c. sent_by c.0 (ticked measures now c.1)) (conns self.old)) }
         ensures told { OnOk result (tells self.old (map hears (keys_of (conns self.old))) self.new) }
-        ensures lost { OnErr result (spoils tight now (conns self.old) (conns self.new)) };
+        ensures lost { OnErr result (spoils measures now (conns self.old) (conns self.new)) };
 
     /// All leave that are over.
     fn drop_over(&mut self, alloc: Global)

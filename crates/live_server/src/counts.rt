@@ -32,6 +32,8 @@ pub struct Counts {
     pub late: u64,
     /// Segments whose text was passed over, since all connections hold as much as they may.
     pub over_full: u64,
+    /// Connections whose segments became shorter, since a router said that one was too long for the path (RFC 1191).
+    pub shortened: u64,
 }
 
 impl Counts {

@@ -2,10 +2,12 @@
 
 ghost use Rattle.std.specs.Prelude.{◌≡◌, codes};
 ghost use Rattle.live_server.specs.DaytimeText.{date_of, daytime_text};
+ghost use Rattle.live_server.specs.Draining.{EachCloses, NoneOpens};
 ghost use Rattle.live_server.specs.Frames.{PiecesJoin};
-ghost use Rattle.live_server.specs.Isolation.{AnswersItsEnds, OthersStay, OwnConnActs, OwnEntryGivesWay, SegmentKeepsTable, TimeKeepsTable, TimeLeaves};
+ghost use Rattle.live_server.specs.Isolation.{AnswersItsEnds, OthersStay, OwnConnActs, OwnEntryGivesWay, SegmentKeepsTable, TimeKeepsTable, TimeLeaves, TooLongIsApart};
 ghost use Rattle.live_server.specs.Promises.{ChallengesAreApart, FirstIsWide, OneGivesWay, OneIsShed, PlaceIsFreed, OutputIsBounded, SegmentKeepsFew, SegmentKeepsWide, ShedIsFair, ShownIsKept};
 ghost use Rattle.live_server.specs.Promises.{NewIsShort, SegmentKeepsShort, ShownIsNarrow, TextIsBounded, TextIsCounted, TimeCountsAnew, TimeKeepsFew};
+ghost use Rattle.live_server.specs.Promises.{HeededIsShort, PathIsBounded, PlacedStaysShort, RestartIsWide, UnsentIsIgnored};
 ghost use Rattle.live_server.specs.Promises.{TickKeepsOrder, TightHoldsOrder, TimeKeepsShort, TimeoutIsWide};
 
 /// Each connection stands once in the table, and there are no more than there are places.
@@ -97,7 +99,14 @@ pub fn congestion_is_bounded()
     ensures first { FirstIsWide }
     ensures segment { SegmentKeepsWide }
     ensures timeout { TimeoutIsWide }
+    ensures restart { RestartIsWide }
     ensures shown { ShownIsNarrow }
+{}
+
+/// Where a server drains, no datagram opens a connection any more, and behind a tick each connection has asked for its FIN, or is half open.
+pub fn a_drain_ends()
+    ensures none { NoneOpens }
+    ensures each { EachCloses }
 {}
 
 /// What a block has under way behind output is at most what it had, or what its window holds, and one for our FIN; and the window that it is
@@ -112,5 +121,19 @@ pub fn the_window_bounds_what_is_under_way()
 pub fn what_is_sent_is_short()
     ensures new { NewIsShort }
     ensures segment { SegmentKeepsShort }
+    ensures placed { PlacedStaysShort }
     ensures time { TimeKeepsShort }
+{}
+
+/// What a router says of a segment that was too long is told to that segment's own connection. All others stay, and what is sent goes to its ends.
+pub fn paths_are_apart()
+    ensures { TooLongIsApart }
+{}
+
+/// Behind such a message that is heeded, no segment has more text than the path takes, or 536 bytes. Whoever sends one makes segments no longer, nor
+/// shorter than that; and nothing changes where no segment of its number is under way.
+pub fn paths_shorten_segments()
+    ensures heeded { HeededIsShort }
+    ensures bounded { PathIsBounded }
+    ensures unsent { UnsentIsIgnored }
 {}

@@ -1,20 +1,19 @@
 //! What a datagram and the time do to a table of connections: who gets a place, who gives way, and where a segment goes.
 
-ghost use Rattle.std.specs.Prelude.{◌≡◌, ◌⊎◌, ◌++◌, ◌<◌, ◌≤◌, ◌^◌, [], true, length, Some, OnErr, OnOk};
-ghost use Rattle.segment_codec.specs.Packet.{packet_in};
+ghost use Rattle.std.specs.Prelude.{◌≡◌, ◌++◌, ◌∷◌, ◌<◌, ◌≤◌, ◌^◌, [], true, length, Some, OnErr, OnOk, false};
 ghost use Rattle.segment_codec.specs.Refusal.{tuple_of};
-ghost use Rattle.segment_codec.specs.declared.packet.Seg.{Seg};
-ghost use Rattle.sq_base.specs.declared.kinds.Link.TheVariants.{RawIp};
 ghost use Rattle.sq_base.specs.declared.kinds.Tuple.{Tuple};
 ghost use Rattle.tcb_machine.specs.Limits.{last_time};
 ghost use Rattle.live_server.specs.Initial.{number_for};
 ghost use Rattle.live_server.specs.Leaving.{without_shed};
-ghost use Rattle.live_server.specs.Isolation.{Costs, KeepsStart, Loses};
+ghost use Rattle.live_server.specs.Isolation.{Costs, CostsOf, KeepsStart, Loses};
 ghost use Rattle.icmp_codec.specs.EchoRequest.{ping_in};
-ghost use Rattle.live_server.specs.Serving.{addressed, arrives, echoes, fits, has_place, limited, is_echoed, is_tight, makes_place, on_datagram, on_other, on_segment, passes_over};
-ghost use Rattle.live_server.specs.Serving.{on_time, opens, refused, server_of, takes_place, without_text, yields};
+ghost use Rattle.live_server.specs.Serving.{addressed, admits, arrives, echoes, fits, has_place, is_echoed, is_tight, limited, makes_place};
+ghost use Rattle.live_server.specs.Serving.{measures_of, obeys, on_datagram, on_other, on_protocol, on_segment, on_time, on_too_long, opens};
+ghost use Rattle.live_server.specs.Serving.{passes_over, refused, refuses, server_of, shortens_at, takes_place, without_text, yields};
 ghost use Rattle.live_server.specs.Table.{place_of, IsNew};
-ghost use Rattle.live_server.specs.Told.{told_addressed, told_arriving, told_datagram, told_opening, told_segment, told_taking, told_time};
+ghost use Rattle.live_server.specs.Told.{told_addressed, told_arriving, told_datagram, told_opening, told_segment, told_taking, told_time, told_too_long, told_admitting};
+ghost use Rattle.live_server.specs.Told.Told.{hears};
 
 use crate::acting::{Datagram, encoded, text_of};
 use crate::addresses::{is_for_us, is_to_us};
@@ -23,9 +22,12 @@ use crate::conn_table::ConnTable;
 use crate::counts::Counts;
 use crate::crowding::{TurnedAway, shed_place};
 use crate::initial::{Secret, initial_number};
+use crate::measures::Measures;
+use crate::orders::{order_in, order_text};
+use crate::path_mtu::text_in_mtu;
 use crate::ports::{is_served_at, service_at};
 use crate::setting::Setting;
-use icmp_codec::{Ping, ping_in, pong};
+use icmp_codec::{Ping, TooLong, ping_in, pong, too_long_in};
 use segment_codec::{Options, Packet, SYN, Seg, decode, refusal, tuple_of};
 use sq_base::{Link, Tuple};
 use std::alloc::{AllocError, Global};
@@ -44,6 +46,8 @@ pub struct Rules<T> {
     pings: u32,
     /// Who found no place since then.
     turned: TurnedAway,
+    /// Whether it drains: no connection opens any more, and each one closes.
+    draining: bool,
     setting: Setting,
     secret: Secret,
     counts: Counts,
@@ -62,6 +66,7 @@ impl<T: ConnTable> Rules<T> {
           held = 0;
           pings = 0;
           turned = Nobody;
+          draining = false;
           setting = setting;
           secret = secret.0;
           counts = no_counts;
@@ -73,6 +78,7 @@ impl<T: ConnTable> Rules<T> {
             held: 0,
             pings: 0,
             turned: TurnedAway::Nobody,
+            draining: false,
             setting,
             secret,
             counts: Counts::default(),
@@ -102,8 +108,9 @@ impl<T: ConnTable> Rules<T> {
     }
 
     /// An IPv4 datagram comes at a time in microseconds. What is sent goes behind the datagrams that are there. Both checksums are
-    /// verified. An echo request is answered, and what else is no whole TCP segment is passed over. An error says that memory was missing:
-    /// then the segment's own connection is gone, and some of what it sent may be; or nothing has changed.
+    /// verified. An echo request is answered, an order of the host is obeyed, a router's message that a segment was too long is told to
+    /// the segment's connection, and what else is no whole TCP segment is passed over. An error says that memory was missing: then the
+    /// segment's own connection is gone, and some of what it sent may be; or nothing has changed.
     #[tactic(auto, unfolding(crate::specs::Serving::on_datagram, crate::specs::Serving::on_packet))]
     pub fn datagram(
         &mut self,
@@ -119,17 +126,116 @@ impl<T: ConnTable> Rules<T> {
         ensures server { OnOk result (server_of T.conns self.new ≡ (on_datagram now body.now (server_of T.conns self.old)).server) }
         ensures sent { OnOk result (out.new.items ≡ out.old.items ++ (on_datagram now body.now (server_of T.conns self.old)).sent) }
         ensures told { OnOk result (T.tells self.old.table (told_datagram now body.now (server_of T.conns self.old)) self.new.table) }
-        ensures lost { OnErr result (((s : Seg) × (packet_in RawIp body.now true ≡ Packet.Segment s)
-            × Costs s (server_of T.conns self.old) (server_of T.conns self.new)) ⊎ (server_of T.conns self.new ≡ server_of T.conns self.old)) }
+        ensures lost { OnErr result (CostsOf body.now (server_of T.conns self.old) (server_of T.conns self.new)) }
         ensures start { OnErr result (KeepsStart (server_of T.conns self.old) (server_of T.conns self.new)) }
     {
         match decode(Link::RawIp, body, true) {
             Packet::Segment(seg) => self.addressed(alloc, now, &seg, text_of(&seg, body), out),
-            Packet::Other => self.other(alloc, now, body, out),
+            Packet::Other => match too_long_in(body) {
+                Some(too_long) => self.shorten(alloc, &too_long, out),
+                None => self.protocol(alloc, now, body, out),
+            },
             _ => {
                 self.pass_over();
                 Ok(())
             }
+        }
+    }
+
+    /// A router says that a segment was too long for the next path (RFC 1191). The segment's connection is told, where the message is for us.
+    #[tactic(auto, unfolding(crate::specs::Serving::on_too_long))]
+    fn shorten(
+        &mut self,
+        alloc: Global,
+        too_long: &TooLong,
+        out: &mut Vec<Datagram>,
+    ) -> Result<(), AllocError>
+        requires good { T.good self.old.table }
+        ensures good { T.good self.new.table }
+        ensures server { OnOk result (server_of T.conns self.new ≡ (on_too_long too_long.now (server_of T.conns self.old)).server) }
+        ensures sent { OnOk result (out.new.items ≡ out.old.items ++ (on_too_long too_long.now (server_of T.conns self.old)).sent) }
+        ensures told { OnOk result (T.tells self.old.table (told_too_long too_long.now (server_of T.conns self.old)) self.new.table) }
+        ensures lost { OnErr result (Loses too_long.now.ends (server_of T.conns self.old) (server_of T.conns self.new)) }
+        ensures start { OnErr result (KeepsStart (server_of T.conns self.old) (server_of T.conns self.new)) }
+    {
+        if is_to_us(&self.setting, too_long.src, too_long.dst) {
+            if let Some(place) = self.table.find(&too_long.ends) {
+                return self.shorten_at(alloc, too_long, place, out);
+            }
+        }
+        self.pass_over();
+        Ok(())
+    }
+
+    /// The connection at a place is told that.
+    #[tactic(auto, unfolding(crate::specs::Serving::shortens_at, crate::specs::Serving::becomes))]
+    fn shorten_at(
+        &mut self,
+        alloc: Global,
+        too_long: &TooLong,
+        place: usize,
+        out: &mut Vec<Datagram>,
+    ) -> Result<(), AllocError>
+        requires good { T.good self.old.table }
+        requires place { place_of too_long.now.ends (T.conns self.old.table) ≡ Some place }
+        ensures good { T.good self.new.table }
+        ensures server { OnOk result (server_of T.conns self.new ≡ (shortens_at too_long.now place (server_of T.conns self.old)).server) }
+        ensures sent { OnOk result (out.new.items ≡ out.old.items ++ (shortens_at too_long.now place (server_of T.conns self.old)).sent) }
+        ensures told { OnOk result (T.tells self.old.table (hears too_long.now.ends ∷ []) self.new.table) }
+        ensures lost { OnErr result (Loses too_long.now.ends (server_of T.conns self.old) (server_of T.conns self.new)) }
+        ensures start { OnErr result (KeepsStart (server_of T.conns self.old) (server_of T.conns self.new)) }
+    {
+        let most = text_in_mtu(too_long.mtu);
+        let met = self
+            .table
+            .shorten(place, alloc, too_long.seq, most, &too_long.ends, out)?;
+        match met {
+            Met::Judged(_) => {
+                self.counts.shortened = self.counts.shortened.wrapping_add(1);
+                Ok(())
+            }
+            Met::Gone => {
+                self.pass_over();
+                Ok(())
+            }
+        }
+    }
+
+    /// A datagram of another protocol: an order of the host is obeyed.
+    #[tactic(auto, unfolding(crate::specs::Serving::on_protocol))]
+    fn protocol(
+        &mut self,
+        alloc: Global,
+        now: u64,
+        body: &[u8],
+        out: &mut Vec<Datagram>,
+    ) -> Result<(), AllocError>
+        requires body { length body.now < 2 ^ 32 }
+        ensures table { self.new.table ≡ self.old.table }
+        ensures server { OnOk result (server_of T.conns self.new ≡ (on_protocol now body.now (server_of T.conns self.old)).server) }
+        ensures sent { OnOk result (out.new.items ≡ out.old.items ++ (on_protocol now body.now (server_of T.conns self.old)).sent) }
+        ensures kept { OnErr result (server_of T.conns self.new ≡ server_of T.conns self.old) }
+    {
+        match order_in(&self.setting, body) {
+            Some(order) => {
+                self.obey(order_text(&order, body));
+                Ok(())
+            }
+            None => self.other(alloc, now, body, out),
+        }
+    }
+
+    /// An order of the host. A text that is none is passed over.
+    #[tactic(auto, unfolding(crate::specs::Serving::obeys))]
+    fn obey(&mut self, text: &[u8])
+        ensures table { self.new.table ≡ self.old.table }
+        ensures server { server_of T.conns self.new ≡ (obeys text.now (server_of T.conns self.old)).server }
+        ensures sent { (obeys text.now (server_of T.conns self.old)).sent ≡ [] }
+    {
+        if text == b"drain".as_slice() {
+            self.draining = true;
+        } else {
+            self.pass_over();
         }
     }
 
@@ -199,8 +305,8 @@ impl<T: ConnTable> Rules<T> {
     /// The time comes to every connection; where three quarters of the text that all may hold are held, each forgets what it holds behind a
     /// gap, which its peer sends again. Who is to leave does: half open for three minutes, silent in FIN-WAIT-2 for one, in
     /// TIME-WAIT where three quarters of the places are taken, or idle where all are. Where the table is still full, one may leave for
-    /// somebody who was turned away. What is sent goes behind the datagrams that are there, connection by connection.
-    /// An error says that memory was missing: then only the table changed, as it says itself.
+    /// somebody who was turned away. Where the server drains, each closes. What is sent goes behind the datagrams that are there,
+    /// connection by connection. An error says that memory was missing: then only the table changed, as it says itself.
     #[tactic(auto, unfolding(crate::specs::Serving::on_time))]
     pub fn tick(
         &mut self,
@@ -214,11 +320,14 @@ impl<T: ConnTable> Rules<T> {
         ensures server { OnOk result (server_of T.conns self.new ≡ (on_time now (server_of T.conns self.old)).server) }
         ensures sent { OnOk result (out.new.items ≡ out.old.items ++ (on_time now (server_of T.conns self.old)).sent) }
         ensures told { OnOk result (T.tells self.old.table (told_time (server_of T.conns self.old)) self.new.table) }
-        ensures lost { OnErr result (T.spoils (is_tight (server_of T.conns self.old)) now (T.conns self.old.table) (T.conns self.new.table)) }
+        ensures lost { OnErr result (T.spoils (measures_of (server_of T.conns self.old)) now (T.conns self.old.table) (T.conns self.new.table)) }
         ensures rest { OnErr result (server_of T.conns self.new ≡ record (server_of T.conns self.old) { conns = T.conns self.new.table }) }
     {
-        let tight = self.is_tight();
-        self.table.reach_all(alloc, tight, now, out)?;
+        let measures = Measures {
+            tight: self.is_tight(),
+            draining: self.draining,
+        };
+        self.table.reach_all(alloc, measures, now, out)?;
         self.table.drop_over(alloc);
         let here = self.table.len();
         self.table.drop_leaving(alloc, &self.setting, now);
@@ -285,9 +394,24 @@ impl<T: ConnTable> Rules<T> {
         } else if is_served_at(&self.setting.ports, seg.dst_port) {
             self.segment(alloc, now, &limited(seg, self.setting.segment), text, out)
         } else {
-            self.counts.refused = self.counts.refused.wrapping_add(1);
-            refuse(alloc, now, seg, out)
+            self.refuse(alloc, now, seg, out)
         }
+    }
+
+    /// A segment is answered by a reset, as at a port without a service.
+    fn refuse(
+        &mut self,
+        alloc: Global,
+        now: u64,
+        seg: &Seg,
+        out: &mut Vec<Datagram>,
+    ) -> Result<(), AllocError>
+        ensures table { self.new.table ≡ self.old.table }
+        ensures server { server_of T.conns self.new ≡ (refuses now seg.now (server_of T.conns self.old)).server }
+        ensures sent { OnOk result (out.new.items ≡ out.old.items ++ (refuses now seg.now (server_of T.conns self.old)).sent) }
+    {
+        self.counts.refused = self.counts.refused.wrapping_add(1);
+        refuse(alloc, now, seg, out)
     }
 
     /// A segment to a service. Where its text would take all past what they may hold, it counts without it.
@@ -383,7 +507,7 @@ impl<T: ConnTable> Rules<T> {
         }
     }
 
-    /// A segment of a connection that has no place: it takes one, unless it is over at once.
+    /// A segment of a connection that has no place. Where the server drains, none opens any more.
     #[tactic(auto, unfolding(crate::specs::Serving::opens))]
     fn open(
         &mut self,
@@ -400,6 +524,33 @@ impl<T: ConnTable> Rules<T> {
         ensures server { OnOk result (server_of T.conns self.new ≡ (opens now seg.now text.now (server_of T.conns self.old)).server) }
         ensures sent { OnOk result (out.new.items ≡ out.old.items ++ (opens now seg.now text.now (server_of T.conns self.old)).sent) }
         ensures told { OnOk result (T.tells self.old.table (told_opening now seg.now text.now (server_of T.conns self.old)) self.new.table) }
+        ensures lost { OnErr result (Loses (tuple_of seg.now) (server_of T.conns self.old) (server_of T.conns self.new)) }
+        ensures start { OnErr result (KeepsStart (server_of T.conns self.old) (server_of T.conns self.new)) }
+    {
+        if self.draining {
+            self.refuse(alloc, now, seg, out)
+        } else {
+            self.admit(alloc, now, seg, text, out)
+        }
+    }
+
+    /// A connection takes a place, unless it is over at once.
+    #[tactic(auto, unfolding(crate::specs::Serving::admits))]
+    fn admit(
+        &mut self,
+        alloc: Global,
+        now: u64,
+        seg: &Seg,
+        text: &[u8],
+        out: &mut Vec<Datagram>,
+    ) -> Result<(), AllocError>
+        requires good { T.good self.old.table }
+        requires time { now ≤ last_time }
+        requires new { IsNew (tuple_of seg.now) (T.conns self.old.table) }
+        ensures good { T.good self.new.table }
+        ensures server { OnOk result (server_of T.conns self.new ≡ (admits now seg.now text.now (server_of T.conns self.old)).server) }
+        ensures sent { OnOk result (out.new.items ≡ out.old.items ++ (admits now seg.now text.now (server_of T.conns self.old)).sent) }
+        ensures told { OnOk result (T.tells self.old.table (told_admitting now seg.now text.now (server_of T.conns self.old)) self.new.table) }
         ensures lost { OnErr result (Loses (tuple_of seg.now) (server_of T.conns self.old) (server_of T.conns self.new)) }
         ensures start { OnErr result (KeepsStart (server_of T.conns self.old) (server_of T.conns self.new)) }
     {

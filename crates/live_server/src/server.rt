@@ -1,11 +1,8 @@
 //! The server of one thread: the rules over a map of connections, seen as the state that the definitions speak of.
 
-ghost use Rattle.std.specs.Prelude.{◌≡◌, ◌⊎◌, ◌++◌, ◌<◌, ◌≤◌, ◌^◌, [], true, length, OnErr, OnOk};
-ghost use Rattle.segment_codec.specs.Packet.{packet_in};
-ghost use Rattle.segment_codec.specs.declared.packet.Seg.{Seg};
-ghost use Rattle.sq_base.specs.declared.kinds.Link.TheVariants.{RawIp};
+ghost use Rattle.std.specs.Prelude.{◌≡◌, ◌++◌, ◌<◌, ◌≤◌, ◌^◌, [], length, OnErr, OnOk, false};
 ghost use Rattle.tcb_machine.specs.Limits.{last_time};
-ghost use Rattle.live_server.specs.Isolation.{Costs, KeepsStart, LosesOne};
+ghost use Rattle.live_server.specs.Isolation.{CostsOf, KeepsStart, LosesOne};
 ghost use Rattle.live_server.specs.Serving.{on_datagram, on_time};
 
 use crate::acting::Datagram;
@@ -16,7 +13,6 @@ use crate::rules::Rules;
 use crate::setting::Setting;
 use crate::table::Table;
 use indexmap::IndexMap;
-use segment_codec::{Packet, Seg};
 use std::alloc::{AllocError, Global};
 use std::marker::Model;
 
@@ -52,7 +48,7 @@ impl Server {
 
     /// A server with no connection. It takes no memory.
     pub fn new(alloc: Global, setting: Setting, secret: Secret) -> Server
-        ensures { result ≡ record { conns = []; waiting = []; held = 0; pings = 0; turned = Nobody; setting = setting; secret = secret.0; counts = no_counts } }
+        ensures { result ≡ record { conns = []; waiting = []; held = 0; pings = 0; turned = Nobody; draining = false; setting = setting; secret = secret.0; counts = no_counts } }
     {
         Server {
             rules: Rules::over(alloc, IndexMap::new(alloc), setting, secret),
@@ -81,8 +77,9 @@ impl Server {
     }
 
     /// An IPv4 datagram comes at a time in microseconds. What is sent goes behind the datagrams that are there. Both checksums are
-    /// verified. An echo request is answered, and what else is no whole TCP segment is passed over. An error says that memory was missing:
-    /// then the segment's own connection is gone, and some of what it sent may be; or nothing has changed.
+    /// verified. An echo request is answered, an order of the host is obeyed, a router's message that a segment was too long is told to
+    /// the segment's connection, and what else is no whole TCP segment is passed over. An error says that memory was missing: then the
+    /// segment's own connection is gone, and some of what it sent may be; or nothing has changed.
     pub fn datagram(
         &mut self,
         alloc: Global,
@@ -94,7 +91,7 @@ impl Server {
         requires body { length body.now < 2 ^ 32 }
         ensures server { OnOk result (self.new ≡ (on_datagram now body.now self.old).server) }
         ensures sent { OnOk result (out.new.items ≡ out.old.items ++ (on_datagram now body.now self.old).sent) }
-        ensures lost { OnErr result (((s : Seg) × (packet_in RawIp body.now true ≡ Packet.Segment s) × Costs s self.old self.new) ⊎ (self.new ≡ self.old)) }
+        ensures lost { OnErr result (CostsOf body.now self.old self.new) }
         ensures start { OnErr result (KeepsStart self.old self.new) }
     {
         self.rules.datagram(alloc, now, body, out)
@@ -103,7 +100,7 @@ impl Server {
     /// The time comes to every connection; where three quarters of the text that all may hold are held, each forgets what it holds behind a
     /// gap, which its peer sends again. Who is to leave does: half open for three minutes, silent in FIN-WAIT-2 for one, in
     /// TIME-WAIT where three quarters of the places are taken, or idle where all are. Where the table is still full, one may leave for
-    /// somebody who was turned away. What is sent goes behind the datagrams that are there, connection by connection.
+    /// somebody who was turned away. Where the server drains, each closes. What is sent goes behind the datagrams that are there, connection by connection.
     /// An error says that memory was missing: then one connection is gone, and to those behind it the time didn't come.
     pub fn tick(
         &mut self,

@@ -28,6 +28,8 @@ pub struct Setting {
     pub ports: Ports,
     /// The pages that it hands out, where it has any.
     pub site: Option<Site>,
+    /// The address of the host whose orders it obeys, where there is one.
+    pub host: Option<Addr>,
 }
 
 impl Setting {
@@ -45,6 +47,7 @@ impl Setting {
             pings: self.pings,
             ports: self.ports,
             site: share(&self.site)?,
+            host: self.host,
         })
     }
 }

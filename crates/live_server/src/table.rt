@@ -6,6 +6,7 @@ ghost use Rattle.tcb_machine.specs.BlockState.{held_in};
 ghost use Rattle.tcb_machine.specs.Limits.{last_time};
 ghost use Rattle.live_server.specs.Acts.{is_over, meets, sent_by, ticked};
 ghost use Rattle.live_server.specs.Leaving.{peer_of, without_leaving};
+ghost use Rattle.live_server.specs.PathMtu.{shortens};
 ghost use Rattle.live_server.specs.Serving.{is_waiting};
 ghost use Rattle.live_server.specs.Table.{all_reached, conn_at, held_by, place_of, reached_until, replaced, settled, without, without_over, IsNew};
 ghost use Rattle.live_server.specs.declared.conn.Met.TheVariants.{Gone};
@@ -15,6 +16,7 @@ use crate::acting::Datagram;
 use crate::conn::{Conn, Met};
 use crate::conn_table::ConnTable;
 use crate::crowding::Peer;
+use crate::measures::Measures;
 use crate::setting::Setting;
 use indexmap::IndexMap;
 use segment_codec::Seg;
@@ -33,7 +35,7 @@ impl ConnTable for Table {
     ghost good = { λ _. Unit {0} };
 
     // The connection at which memory was missing left, and those behind it are as they were.
-    ghost spoils = { λ tight now was is. (i : ℕ) × (i < length was) × (is ≡ without i (reached_until tight now i was)) };
+    ghost spoils = { λ measures now was is. (i : ℕ) × (i < length was) × (is ≡ without i (reached_until measures now i was)) };
 
     // A map alone tells nobody.
     ghost tells = { λ _ _ _. Unit {0} };
@@ -81,14 +83,26 @@ impl ConnTable for Table {
         meet_at(self, place, alloc, now, iss, seg, text, tuple, out)
     }
 
+    fn shorten(
+        &mut self,
+        place: usize,
+        alloc: Global,
+        seq: u32,
+        most: u16,
+        tuple: &Tuple,
+        out: &mut Vec<Datagram>,
+    ) -> Result<Met, AllocError> {
+        shorten_at(self, place, alloc, seq, most, tuple, out)
+    }
+
     fn reach_all(
         &mut self,
         alloc: Global,
-        tight: bool,
+        measures: Measures,
         now: u64,
         out: &mut Vec<Datagram>,
     ) -> Result<(), AllocError> {
-        reach_all(self, alloc, tight, now, out)
+        reach_all(self, alloc, measures, now, out)
     }
 
     fn drop_over(&mut self, alloc: Global) {
@@ -193,23 +207,23 @@ fn held_at(table: &Table, place: usize) -> u64
     }
 }
 
-/// The time comes to each connection in turn, which forgets text behind a gap where memory is tight. What is sent goes behind the datagrams
+/// The time comes to each connection in turn, which does what is asked of all. What is sent goes behind the datagrams
 /// that are there. The connection at which memory is missing leaves, and those behind it are as they were.
 fn reach_all(
     table: &mut Table,
     alloc: Global,
-    tight: bool,
+    measures: Measures,
     now: u64,
     out: &mut Vec<Datagram>,
 ) -> Result<(), AllocError>
     requires { now ≤ last_time }
-    ensures table { OnOk result (table.new.entries ≡ all_reached tight now table.old.entries) }
-    ensures sent { OnOk result (out.new.items ≡ out.old.items ++ flat_map (λ c. sent_by c.0 (ticked tight now c.1)) table.old.entries) }
-    ensures lost { OnErr result ((i : ℕ) × (i < length table.old.entries) × (table.new.entries ≡ without i (reached_until tight now i table.old.entries))) }
+    ensures table { OnOk result (table.new.entries ≡ all_reached measures now table.old.entries) }
+    ensures sent { OnOk result (out.new.items ≡ out.old.items ++ flat_map (λ c. sent_by c.0 (ticked measures now c.1)) table.old.entries) }
+    ensures lost { OnErr result ((i : ℕ) × (i < length table.old.entries) × (table.new.entries ≡ without i (reached_until measures now i table.old.entries))) }
 {
     for place in 0..table.len() {
         let (tuple, conn) = table.pair_mut(place);
-        if let Err(error) = conn.tick(alloc, tight, now, tuple, out) {
+        if let Err(error) = conn.tick(alloc, measures, now, tuple, out) {
             leave(table, place);
             return Err(error);
         }
@@ -243,6 +257,39 @@ fn meet_at(
 {
     let (_, conn) = table.pair_mut(place);
     match conn.meet(alloc, now, iss, seg, text, tuple, out) {
+        Ok(met) => {
+            settle(table, place);
+            Ok(met)
+        }
+        Err(error) => {
+            leave(table, place);
+            Err(error)
+        }
+    }
+}
+
+/// A router says to the connection at a place that a segment was dropped as too long. The connection leaves where it is over, or where memory
+/// is missing. The answer says whether it was heeded.
+#[tactic(auto, unfolding(crate::specs::Table::replaced))]
+fn shorten_at(
+    table: &mut Table,
+    place: usize,
+    alloc: Global,
+    seq: u32,
+    most: u16,
+    tuple: &Tuple,
+    out: &mut Vec<Datagram>,
+) -> Result<Met, AllocError>
+    requires { place_of tuple.now table.old.entries ≡ Some place }
+    ensures met { IfOk result (λ m. m ≡ (shortens seq most tuple.now (conn_at place table.old.entries)).met) }
+    ensures table { OnOk result (table.new.entries ≡ replaced place
+        (shortens seq most tuple.now (conn_at place table.old.entries)).conn table.old.entries) }
+    ensures sent { OnOk result (out.new.items ≡ out.old.items
+        ++ (shortens seq most tuple.now (conn_at place table.old.entries)).sent) }
+    ensures lost { OnErr result (table.new.entries ≡ without place table.old.entries) }
+{
+    let (_, conn) = table.pair_mut(place);
+    match conn.shorten(alloc, seq, most, tuple, out) {
         Ok(met) => {
             settle(table, place);
             Ok(met)

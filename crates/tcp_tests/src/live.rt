@@ -20,6 +20,7 @@ const SETTING: Setting = Setting {
     pings: 1000,
     ports: PLAIN_PORTS,
     site: None,
+    host: None,
 };
 
 /// SYNs of 10.9.0.1, ports 40000 and 40001, to 10.9.0.2, port 7, with both sums.

@@ -34,6 +34,7 @@ layout = record {
     pings = 1000;
     ports = plain_ports;
     site = None;
+    host = None;
   };
   secret = record { 0 = 0 ∷ 1 ∷ 2 ∷ 3 ∷ 4 ∷ 5 ∷ 6 ∷ 7 ∷ 8 ∷ 9 ∷ 10 ∷ 11 ∷ 12 ∷ 13 ∷ 14 ∷ 15 ∷ [] };
   goes_on = false;

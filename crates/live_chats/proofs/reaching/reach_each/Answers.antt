@@ -10,11 +10,11 @@ use Rattle.live_chats.proofs.SeatLemmas.{seats_told_on}
 use Rattle.live_chats.proofs.reaching.reach_each.Goals as goal
 
 pub returns-clause-table : goal.returns-clause-table
-returns-clause-table g c = λ yes. c.reach_now.ensures.table yes ∙ ap (all_reached c.args.tight c.args.now) c.renew_all-pass.ensures.table
+returns-clause-table g c = λ yes. c.reach_now.ensures.table yes ∙ ap (all_reached c.args.measures c.args.now) c.renew_all-pass.ensures.table
 
 pub returns-clause-sent : goal.returns-clause-sent
 returns-clause-sent g c = λ yes.
-    c.reach_now.ensures.sent yes ∙ ap (λ (cs : Conns). c.args.out.now.items ++ flat_map (λ x. sent_by x.0 (ticked c.args.tight c.args.now x.1)) cs) c.renew_all-pass.ensures.table
+    c.reach_now.ensures.sent yes ∙ ap (λ (cs : Conns). c.args.out.now.items ++ flat_map (λ x. sent_by x.0 (ticked c.args.measures c.args.now x.1)) cs) c.renew_all-pass.ensures.table
 
 pub returns-clause-told : goal.returns-clause-told
 returns-clause-told g c = λ yes.
@@ -24,4 +24,4 @@ returns-clause-told g c = λ yes.
 
 pub returns-clause-lost : goal.returns-clause-lost
 returns-clause-lost g c = λ no.
-    subst (λ (cs : Conns). Spoils c.args.tight c.args.now cs (conns_of c.reach_now.new.stays c.reach_now.new.seats.entries)) c.renew_all-pass.ensures.table (c.reach_now.ensures.lost no)
+    subst (λ (cs : Conns). Spoils c.args.measures c.args.now cs (conns_of c.reach_now.new.stays c.reach_now.new.seats.entries)) c.renew_all-pass.ensures.table (c.reach_now.ensures.lost no)

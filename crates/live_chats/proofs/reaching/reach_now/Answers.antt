@@ -20,7 +20,7 @@ returns-then-all-clause-seats g c =
     let es = c.args.seats.now.entries in
     let b = c.listen-pass.new.stays in
     let hs = c.mark_next.new.heard.items in
-    let heard = is_heard c.args.tight c.args.now c.args.stays.now c.tell_all-pass.new.stays b es c.listen-pass.result.1.items hs c.args.out.now.items c.listen-pass.new.out.items c.tell_all-pass.result.1 _ c.requires.time c.tell_all-pass.ensures.count
+    let heard = is_heard c.args.measures c.args.now c.args.stays.now c.tell_all-pass.new.stays b es c.listen-pass.result.1.items hs c.args.out.now.items c.listen-pass.new.out.items c.tell_all-pass.result.1 _ c.requires.time c.tell_all-pass.ensures.count
     c.requires.seats.seated c.requires.seats.distinct c.tell_all-pass.ensures.told c.listen-pass.ensures.kept c.tell_all-pass.ensures.touched c.listen-pass.ensures.answers (λ lt. c.mark_next.ensures.next (omega (arith, lt, c.len-3.ensures.len)))
     (λ past. c.mark_next.ensures.all (omega (arith, past, c.len-3.ensures.len))) in
     let learned = c.learn_all.ensures ∙ ap (λ (l : List (Option Heard)). all_learnt l c.args.seats.now.entries) c.as_slice.ensures.value in
@@ -28,44 +28,44 @@ returns-then-all-clause-seats g c =
     omega (arith, c.listen-pass.ensures.asks, c.tell_all-pass.ensures.asks, c.if-life-len.false, c.len.ensures.len, ap (λ (l : Life). l.asks) c.life.ensures) in
     let all = λ (k : ℕ) (is : slice_get c.mark_next.new.heard.items k ≡ Some None). c.all_heard-all.ensures c.if-all.true k (ap (λ (l : List (Option Heard)). slice_get l k) c.as_slice-2.ensures.value ∙ is) in
     subst (HasSeats limits_of s (origin_of s.given.first) c.listen-pass.result.0 b) (sym learned)
-    (all_seats c.args.tight c.args.now c.args.stays.now b es c.listen-pass.result.1.items hs c.args.out.now.items c.listen-pass.new.out.items heard limits_of s (origin_of s.given.first) c.listen-pass.result.0 c.listen-pass.ensures.settled c.requires.seats.distinct paid all)
+    (all_seats c.args.measures c.args.now c.args.stays.now b es c.listen-pass.result.1.items hs c.args.out.now.items c.listen-pass.new.out.items heard limits_of s (origin_of s.given.first) c.listen-pass.result.0 c.listen-pass.ensures.settled c.requires.seats.distinct paid all)
 
 pub returns-then-all-clause-table : goal.returns-then-all-clause-table
 returns-then-all-clause-table g c = λ _.
     let es = c.args.seats.now.entries in
     let b = c.listen-pass.new.stays in
     let hs = c.mark_next.new.heard.items in
-    let heard = is_heard c.args.tight c.args.now c.args.stays.now c.tell_all-pass.new.stays b es c.listen-pass.result.1.items hs c.args.out.now.items c.listen-pass.new.out.items c.tell_all-pass.result.1 _ c.requires.time c.tell_all-pass.ensures.count
+    let heard = is_heard c.args.measures c.args.now c.args.stays.now c.tell_all-pass.new.stays b es c.listen-pass.result.1.items hs c.args.out.now.items c.listen-pass.new.out.items c.tell_all-pass.result.1 _ c.requires.time c.tell_all-pass.ensures.count
     c.requires.seats.seated c.requires.seats.distinct c.tell_all-pass.ensures.told c.listen-pass.ensures.kept c.tell_all-pass.ensures.touched c.listen-pass.ensures.answers (λ lt. c.mark_next.ensures.next (omega (arith, lt, c.len-3.ensures.len)))
     (λ past. c.mark_next.ensures.all (omega (arith, past, c.len-3.ensures.len))) in
     let learned = c.learn_all.ensures ∙ ap (λ (l : List (Option Heard)). all_learnt l c.args.seats.now.entries) c.as_slice.ensures.value in
     let all = λ (k : ℕ) (is : slice_get c.mark_next.new.heard.items k ≡ Some None). c.all_heard-all.ensures c.if-all.true k (ap (λ (l : List (Option Heard)). slice_get l k) c.as_slice-2.ensures.value ∙ is) in
-    ap (conns_of b) learned ∙ all_conns c.args.tight c.args.now c.args.stays.now b es c.listen-pass.result.1.items hs c.args.out.now.items c.listen-pass.new.out.items heard all
+    ap (conns_of b) learned ∙ all_conns c.args.measures c.args.now c.args.stays.now b es c.listen-pass.result.1.items hs c.args.out.now.items c.listen-pass.new.out.items heard all
 
 pub returns-then-all-clause-sent : goal.returns-then-all-clause-sent
 returns-then-all-clause-sent g c = λ _.
     let es = c.args.seats.now.entries in
     let b = c.listen-pass.new.stays in
     let hs = c.mark_next.new.heard.items in
-    let heard = is_heard c.args.tight c.args.now c.args.stays.now c.tell_all-pass.new.stays b es c.listen-pass.result.1.items hs c.args.out.now.items c.listen-pass.new.out.items c.tell_all-pass.result.1 _ c.requires.time c.tell_all-pass.ensures.count
+    let heard = is_heard c.args.measures c.args.now c.args.stays.now c.tell_all-pass.new.stays b es c.listen-pass.result.1.items hs c.args.out.now.items c.listen-pass.new.out.items c.tell_all-pass.result.1 _ c.requires.time c.tell_all-pass.ensures.count
     c.requires.seats.seated c.requires.seats.distinct c.tell_all-pass.ensures.told c.listen-pass.ensures.kept c.tell_all-pass.ensures.touched c.listen-pass.ensures.answers (λ lt. c.mark_next.ensures.next (omega (arith, lt, c.len-3.ensures.len)))
     (λ past. c.mark_next.ensures.all (omega (arith, past, c.len-3.ensures.len))) in
     let all = λ (k : ℕ) (is : slice_get c.mark_next.new.heard.items k ≡ Some None). c.all_heard-all.ensures c.if-all.true k (ap (λ (l : List (Option Heard)). slice_get l k) c.as_slice-2.ensures.value ∙ is) in
-    all_sent c.args.tight c.args.now c.args.stays.now b es c.listen-pass.result.1.items hs c.args.out.now.items c.listen-pass.new.out.items heard all
+    all_sent c.args.measures c.args.now c.args.stays.now b es c.listen-pass.result.1.items hs c.args.out.now.items c.listen-pass.new.out.items heard all
 
 pub returns-then-all-clause-told : goal.returns-then-all-clause-told
 returns-then-all-clause-told g c = λ _.
     let es = c.args.seats.now.entries in
     let b = c.listen-pass.new.stays in
     let hs = c.mark_next.new.heard.items in
-    let heard = is_heard c.args.tight c.args.now c.args.stays.now c.tell_all-pass.new.stays b es c.listen-pass.result.1.items hs c.args.out.now.items c.listen-pass.new.out.items c.tell_all-pass.result.1 _ c.requires.time c.tell_all-pass.ensures.count
+    let heard = is_heard c.args.measures c.args.now c.args.stays.now c.tell_all-pass.new.stays b es c.listen-pass.result.1.items hs c.args.out.now.items c.listen-pass.new.out.items c.tell_all-pass.result.1 _ c.requires.time c.tell_all-pass.ensures.count
     c.requires.seats.seated c.requires.seats.distinct c.tell_all-pass.ensures.told c.listen-pass.ensures.kept c.tell_all-pass.ensures.touched c.listen-pass.ensures.answers (λ lt. c.mark_next.ensures.next (omega (arith, lt, c.len-3.ensures.len)))
     (λ past. c.mark_next.ensures.all (omega (arith, past, c.len-3.ensures.len))) in
     let learned = c.learn_all.ensures ∙ ap (λ (l : List (Option Heard)). all_learnt l c.args.seats.now.entries) c.as_slice.ensures.value in
     let all = λ (k : ℕ) (is : slice_get c.mark_next.new.heard.items k ≡ Some None). c.all_heard-all.ensures c.if-all.true k (ap (λ (l : List (Option Heard)). slice_get l k) c.as_slice-2.ensures.value ∙ is) in
     let s = c.args.line.now.squeue.now in
     subst (λ (l : List (Tuple × Seat)). SeatsWereTold limits_of s c.args.pass c.listen-pass.result.0 c.args.stays.now b es l (map hears (keys_of es))) (sym learned)
-    (all_frames_told c.args.tight c.args.now c.args.stays.now b es c.listen-pass.result.1.items hs c.args.out.now.items c.listen-pass.new.out.items heard limits_of s c.args.pass c.listen-pass.result.0
+    (all_frames_told c.args.measures c.args.now c.args.stays.now b es c.listen-pass.result.1.items hs c.args.out.now.items c.listen-pass.new.out.items heard limits_of s c.args.pass c.listen-pass.result.0
     c.requires.seats.distinct all (begins_on _ _ _ c.tell_all-pass.ensures.grows c.listen-pass.ensures.grows))
 
 pub drop_unheard-pass-requires-clause-seats : goal.drop_unheard-pass-requires-clause-seats
@@ -74,7 +74,7 @@ drop_unheard-pass-requires-clause-seats g c =
     let es = c.args.seats.now.entries in
     let b = c.listen-pass.new.stays in
     let hs = c.mark_next.new.heard.items in
-    let heard = is_heard c.args.tight c.args.now c.args.stays.now c.tell_all-pass.new.stays b es c.listen-pass.result.1.items hs c.args.out.now.items c.listen-pass.new.out.items c.tell_all-pass.result.1 _ c.requires.time c.tell_all-pass.ensures.count
+    let heard = is_heard c.args.measures c.args.now c.args.stays.now c.tell_all-pass.new.stays b es c.listen-pass.result.1.items hs c.args.out.now.items c.listen-pass.new.out.items c.tell_all-pass.result.1 _ c.requires.time c.tell_all-pass.ensures.count
     c.requires.seats.seated c.requires.seats.distinct c.tell_all-pass.ensures.told c.listen-pass.ensures.kept c.tell_all-pass.ensures.touched c.listen-pass.ensures.answers (λ lt. c.mark_next.ensures.next (omega (arith, lt, c.len-3.ensures.len)))
     (λ past. c.mark_next.ensures.all (omega (arith, past, c.len-3.ensures.len))) in
     let learned = c.learn_all.ensures ∙ ap (λ (l : List (Option Heard)). all_learnt l c.args.seats.now.entries) c.as_slice.ensures.value in
@@ -82,29 +82,29 @@ drop_unheard-pass-requires-clause-seats g c =
     omega (arith, c.listen-pass.ensures.asks, c.tell_all-pass.ensures.asks, c.if-life-len.false, c.len.ensures.len, ap (λ (l : Life). l.asks) c.life.ensures) in
     subst (λ (x : List (Option Heard) × List (Tuple × Seat)). HasHeardSeats limits_of c.args.line.now.squeue.now (origin_of c.args.line.now.squeue.now.given.first) x.0 (length x.0) c.listen-pass.result.0 c.listen-pass.new.stays x.1)
     (λ j. (sym c.as_slice-3.ensures.value j, sym learned j))
-    (some_seats c.args.tight c.args.now c.args.stays.now b es c.listen-pass.result.1.items hs c.args.out.now.items c.listen-pass.new.out.items heard limits_of s (origin_of s.given.first) c.listen-pass.result.0 c.listen-pass.ensures.settled c.requires.seats.distinct paid)
+    (some_seats c.args.measures c.args.now c.args.stays.now b es c.listen-pass.result.1.items hs c.args.out.now.items c.listen-pass.new.out.items heard limits_of s (origin_of s.given.first) c.listen-pass.result.0 c.listen-pass.ensures.settled c.requires.seats.distinct paid)
 
 pub drop_unheard-pass-requires-clause-count : goal.drop_unheard-pass-requires-clause-count
 drop_unheard-pass-requires-clause-count g c =
     let es = c.args.seats.now.entries in
     let b = c.listen-pass.new.stays in
     let hs = c.mark_next.new.heard.items in
-    let heard = is_heard c.args.tight c.args.now c.args.stays.now c.tell_all-pass.new.stays b es c.listen-pass.result.1.items hs c.args.out.now.items c.listen-pass.new.out.items c.tell_all-pass.result.1 _ c.requires.time c.tell_all-pass.ensures.count
+    let heard = is_heard c.args.measures c.args.now c.args.stays.now c.tell_all-pass.new.stays b es c.listen-pass.result.1.items hs c.args.out.now.items c.listen-pass.new.out.items c.tell_all-pass.result.1 _ c.requires.time c.tell_all-pass.ensures.count
     c.requires.seats.seated c.requires.seats.distinct c.tell_all-pass.ensures.told c.listen-pass.ensures.kept c.tell_all-pass.ensures.touched c.listen-pass.ensures.answers (λ lt. c.mark_next.ensures.next (omega (arith, lt, c.len-3.ensures.len)))
     (λ past. c.mark_next.ensures.all (omega (arith, past, c.len-3.ensures.len))) in
     let learned = c.learn_all.ensures ∙ ap (λ (l : List (Option Heard)). all_learnt l c.args.seats.now.entries) c.as_slice.ensures.value in
-    omega (arith, ap length c.as_slice-3.ensures.value, ap length learned, learnt_length hs es, heard_length c.args.tight c.args.now c.args.stays.now b es c.listen-pass.result.1.items hs c.args.out.now.items c.listen-pass.new.out.items heard)
+    omega (arith, ap length c.as_slice-3.ensures.value, ap length learned, learnt_length hs es, heard_length c.args.measures c.args.now c.args.stays.now b es c.listen-pass.result.1.items hs c.args.out.now.items c.listen-pass.new.out.items heard)
 
 pub returns-clause-lost : goal.returns-clause-lost
 returns-clause-lost g c = λ _.
     let es = c.args.seats.now.entries in
     let b = c.listen-pass.new.stays in
     let hs = c.mark_next.new.heard.items in
-    let heard = is_heard c.args.tight c.args.now c.args.stays.now c.tell_all-pass.new.stays b es c.listen-pass.result.1.items hs c.args.out.now.items c.listen-pass.new.out.items c.tell_all-pass.result.1 _ c.requires.time c.tell_all-pass.ensures.count
+    let heard = is_heard c.args.measures c.args.now c.args.stays.now c.tell_all-pass.new.stays b es c.listen-pass.result.1.items hs c.args.out.now.items c.listen-pass.new.out.items c.tell_all-pass.result.1 _ c.requires.time c.tell_all-pass.ensures.count
     c.requires.seats.seated c.requires.seats.distinct c.tell_all-pass.ensures.told c.listen-pass.ensures.kept c.tell_all-pass.ensures.touched c.listen-pass.ensures.answers (λ lt. c.mark_next.ensures.next (omega (arith, lt, c.len-3.ensures.len)))
     (λ past. c.mark_next.ensures.all (omega (arith, past, c.len-3.ensures.len))) in
     let learned = c.learn_all.ensures ∙ ap (λ (l : List (Option Heard)). all_learnt l c.args.seats.now.entries) c.as_slice.ensures.value in
-    some_spoilt c.args.tight c.args.now c.args.stays.now b es c.listen-pass.result.1.items hs c.args.out.now.items c.listen-pass.new.out.items heard c.drop_unheard-pass.new.stays c.drop_unheard-pass.new.seats.entries
+    some_spoilt c.args.measures c.args.now c.args.stays.now b es c.listen-pass.result.1.items hs c.args.out.now.items c.listen-pass.new.out.items heard c.drop_unheard-pass.new.stays c.drop_unheard-pass.new.seats.entries
     (λ k e at. (let was = c.drop_unheard-pass.ensures.were k e at in (was.0, was.1, ap (λ (l : List (Tuple × Seat)). slice_get l was.0) (sym learned) ∙ was.2, was.3)))
 
 pub learn_all-requires : goal.learn_all-requires
@@ -112,10 +112,10 @@ learn_all-requires g c =
     let es = c.args.seats.now.entries in
     let b = c.listen-pass.new.stays in
     let hs = c.mark_next.new.heard.items in
-    let heard = is_heard c.args.tight c.args.now c.args.stays.now c.tell_all-pass.new.stays b es c.listen-pass.result.1.items hs c.args.out.now.items c.listen-pass.new.out.items c.tell_all-pass.result.1 _ c.requires.time c.tell_all-pass.ensures.count
+    let heard = is_heard c.args.measures c.args.now c.args.stays.now c.tell_all-pass.new.stays b es c.listen-pass.result.1.items hs c.args.out.now.items c.listen-pass.new.out.items c.tell_all-pass.result.1 _ c.requires.time c.tell_all-pass.ensures.count
     c.requires.seats.seated c.requires.seats.distinct c.tell_all-pass.ensures.told c.listen-pass.ensures.kept c.tell_all-pass.ensures.touched c.listen-pass.ensures.answers (λ lt. c.mark_next.ensures.next (omega (arith, lt, c.len-3.ensures.len)))
     (λ past. c.mark_next.ensures.all (omega (arith, past, c.len-3.ensures.len))) in
-    omega (arith, ap length c.as_slice.ensures.value, heard_length c.args.tight c.args.now c.args.stays.now b es c.listen-pass.result.1.items hs c.args.out.now.items c.listen-pass.new.out.items heard)
+    omega (arith, ap length c.as_slice.ensures.value, heard_length c.args.measures c.args.now c.args.stays.now b es c.listen-pass.result.1.items hs c.args.out.now.items c.listen-pass.new.out.items heard)
 
 pub returns-then-is_empty-clause-told : goal.returns-then-is_empty-clause-told
 returns-then-is_empty-clause-told g c = λ _.

@@ -13,7 +13,7 @@ invariant-loop-i g l =
       knows : Knows IsFirst Tells limits_of l.line.squeue.now (origin_of l.line.squeue.now.given.first) l.pass l.stays;
       number : number l.pass ≡ number l.fn.pass;
       grows : Grows (seen l.fn.pass) (seen l.pass);
-      told : AreTold l.tight l.now l.i l.fn.stays l.stays l.seats.entries;
+      told : AreTold l.measures l.now l.i l.fn.stays l.stays l.seats.entries;
       touched : touched_of l.stays ≡ places_in (take l.i l.seats.entries);
       asks : (life_of l.stays).asks ≡ (life_of l.fn.stays).asks;
       all : l.i-end ≡ length l.seats.entries;

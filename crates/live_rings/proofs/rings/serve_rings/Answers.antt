@@ -1,4 +1,4 @@
-use Rattle.std.proofs.Common.{◌≡◌, ◌∙◌, ◌≤◌, sym, ap, subst, arith, length, take, drop, ◌++◌, List, vec_capacity}
+use Rattle.std.proofs.Common.{◌≡◌, ◌∙◌, ◌≤◌, sym, ap, subst, arith, length, min, take, drop, ◌++◌, List, vec_capacity}
 use Rattle.std.specs.Prelude.{All}
 use Rattle.live_rings.specs.declared.ending.Ends.{Ends}
 use Rattle.ring_groups.specs.declared.groups.Group.{Group}
@@ -6,7 +6,7 @@ use Rattle.live_rings.specs.declared.ending.EndedRing.{EndedRing}
 use Rattle.ring_groups.specs.Groups.{HaveEnded, MayServe, all_in, many_in}
 use Rattle.histories.specs.Endings.{Ending}
 use Rattle.live_rings.specs.Served.{AllLived, EndedIn, HasEnded}
-use Rattle.ring_groups.proofs.Grouped.{all_groups, few_ended, of_groups, whole_back}
+use Rattle.ring_groups.proofs.Grouped.{all_groups, few_ended, many_ends, of_groups, whole_back}
 use Rattle.live_rings.proofs.rings.serve_rings.Given.{Over}
 use Rattle.live_rings.proofs.rings.serve_rings.Goals.{After-serve_groups}
 use Rattle.live_rings.proofs.rings.serve_rings.Goals as goal
@@ -48,7 +48,7 @@ lived : (g : Over) (c : After-serve_groups g) (ds : List (EndedRing g.row.S.Deno
 lived g c ds zs h =
     subst (λ (es : List (Ends g.row.S.Denot g.row.K.Denot)). AllLived g.S.Source.rest g.S.Source.read_faults g.K.Sink.contents g.K.Sink.write_faults c.args.setup.now zs es ds) (dealt g c)
     (all_groups (EndedIn g.S.Source.rest g.S.Source.read_faults g.K.Sink.contents g.K.Sink.write_faults c.args.setup.now) c.deref_mut.result.now c.serve_groups.new.groups ds zs
-    (omega (arith, c.serve_groups.auto.groups)) c.serve_groups.ensures
+    (subst (All MayServe) (sym c.deref_mut.ensures.value) c.in_ok-groups.ensures.may) (omega (arith, c.serve_groups.auto.groups)) c.serve_groups.ensures
     (subst (λ (gs : List (Group (Ends g.row.S.Denot g.row.K.Denot) (EndedRing g.row.S.Denot g.row.K.Denot) Ending)). HaveEnded gs ds zs) (back g c) h))
 
 pub returns-clause-lived : goal.returns-clause-lived
@@ -59,3 +59,14 @@ returns-clause-ended g c =
     of_groups (EndedIn g.S.Source.rest g.S.Source.read_faults g.K.Sink.contents g.K.Sink.write_faults c.args.setup.now)
     (HasEnded g.S.Source.rest g.S.Source.read_faults g.K.Sink.contents g.K.Sink.write_faults c.args.setup.now) (λ z k e d h. h.ended) _ _ _
     (lived g (goal.at.returns-clause-ended g c).After-serve_groups _ _ c.in_ok-streams.ensures)
+
+-- there are as many ends as groups were dealt
+ends : (g : Over) (c : After-serve_groups g) (ds : List (EndedRing g.row.S.Denot g.row.K.Denot)) (zs : List Ending) → 1 ≤ c.args.setup.now.squeues
+    → HaveEnded (take c.in_ok-groups.groups.len (c.serve_groups.new.groups ++ drop (length c.serve_groups.new.groups) c.in_ok-groups.groups.items)) ds zs
+    → length zs ≡ min c.args.setup.now.squeues (length c.args.ends.items)
+ends g c ds zs some h =
+    let many = many_ends (take c.in_ok-groups.groups.len (c.serve_groups.new.groups ++ drop (length c.serve_groups.new.groups) c.in_ok-groups.groups.items)) ds zs h in
+    omega (arith, many, ap length (back g c), c.serve_groups.auto.groups, ap length c.deref_mut.ensures.value, c.in_ok-groups.ensures.many some)
+
+pub returns-clause-squeues : goal.returns-clause-squeues
+returns-clause-squeues g c = ends g (goal.at.returns-clause-squeues g c).After-serve_groups _ _ c.requires.setup.squeues c.in_ok-streams.ensures

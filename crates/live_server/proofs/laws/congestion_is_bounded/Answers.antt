@@ -1,3 +1,4 @@
+use Rattle.live_server.proofs.PathLemmas.{restart_wide}
 use Rattle.live_server.proofs.PromiseLemmas.{first_wide, segment_wide, shown_narrow, timeout_wide}
 use Rattle.live_server.proofs.laws.congestion_is_bounded.Goals as goal
 
@@ -9,6 +10,9 @@ returns-clause-segment c = segment_wide
 
 pub returns-clause-timeout : goal.returns-clause-timeout
 returns-clause-timeout c = timeout_wide
+
+pub returns-clause-restart : goal.returns-clause-restart
+returns-clause-restart c = restart_wide
 
 pub returns-clause-shown : goal.returns-clause-shown
 returns-clause-shown c = shown_narrow

@@ -4,6 +4,6 @@ use Rattle.live_server.proofs.table.reach_all.Given as goal
 
 abbrev pub invariant-loop-place : goal.invariant-loop-place
 invariant-loop-place l =
-    (l.table.entries ≡ halfway l.tight l.now l.fn.table.entries l.place)
-    × (l.out.items ≡ l.fn.out.items ++ told_until l.tight l.now l.fn.table.entries l.place)
+    (l.table.entries ≡ halfway l.measures l.now l.fn.table.entries l.place)
+    × (l.out.items ≡ l.fn.out.items ++ told_until l.measures l.now l.fn.table.entries l.place)
     × (l.place-end ≡ length l.fn.table.entries)

@@ -25,6 +25,7 @@ pub returns-else-is_served_at-clause-told : goal.returns-else-is_served_at-claus
 returns-else-is_served_at-clause-told g c =
     let sv : ServerOf = server_of g.T.ConnTable.conns c.args.self.now in
     on_ok c.refuse.result _
+    (subst (λ t. g.T.ConnTable.tells c.args.self.now.table (told_addressed c.args.now c.args.seg.now c.args.text.now sv) t) (sym c.refuse.ensures.table)
     (subst (λ ws. g.T.ConnTable.tells c.args.self.now.table ws c.args.self.now.table)
     (sym (addressed_told c.args.now c.args.seg.now c.args.text.now sv true false (sym c.if-not-is_for_us.ensures) (sym c.if-is_served_at.ensures)))
-    (g.met.T.ConnTable.tells_nothing c.args.self.now.table))
+    (g.met.T.ConnTable.tells_nothing c.args.self.now.table)))

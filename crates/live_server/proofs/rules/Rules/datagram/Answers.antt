@@ -2,7 +2,7 @@ use Rattle.std.proofs.Common.{◌∙◌, ap, subst, sym}
 use Rattle.live_server.specs.Serving.{ServerOf, server_of}
 use Rattle.live_server.specs.Told.{told_addressed, told_datagram}
 use Rattle.live_server.proofs.ArriveLemmas.{map_ok}
-use Rattle.live_server.proofs.ToldLemmas.{other_told, packet_told, protocol_told}
+use Rattle.live_server.proofs.ToldLemmas.{other_told, packet_told, too_long_told, unheard_told}
 use Rattle.live_server.proofs.rules.Rules.datagram.Goals as goal
 
 pub returns-in-Segment-clause-told : goal.returns-in-Segment-clause-told
@@ -14,18 +14,27 @@ returns-in-Segment-clause-told g c =
     ∙ sym (packet_told c.args.now c.args.body.now sv c.in-Segment.seg (sym c.decode.ensures ∙ c.in-Segment.is))) told)
     c.addressed.ensures.told
 
-pub returns-in-Other-clause-told : goal.returns-in-Other-clause-told
-returns-in-Other-clause-told g c =
+pub returns-in-Some-clause-told : goal.returns-in-Some-clause-told
+returns-in-Some-clause-told g c =
     let sv : ServerOf = server_of g.T.ConnTable.conns c.args.self.now in
-    map_ok c.other.result _ (g.T.ConnTable.tells c.args.self.now.table (told_datagram c.args.now c.args.body.now sv) c.other.new.self.table)
-    (λ _. subst (λ t. g.T.ConnTable.tells c.args.self.now.table (told_datagram c.args.now c.args.body.now sv) t) (sym c.other.ensures.table)
+    map_ok c.shorten.result _ (g.T.ConnTable.tells c.args.self.now.table (told_datagram c.args.now c.args.body.now sv) c.shorten.new.self.table)
+    (λ told. subst (λ ws. g.T.ConnTable.tells c.args.self.now.table ws c.shorten.new.self.table)
+    (sym (too_long_told c.args.now c.args.body.now sv c.in-Some.too_long (sym c.decode.ensures ∙ c.in-Other.is) (sym c.too_long_in.ensures ∙ c.in-Some.is))) told)
+    c.shorten.ensures.told
+
+pub returns-in-None-clause-told : goal.returns-in-None-clause-told
+returns-in-None-clause-told g c =
+    let sv : ServerOf = server_of g.T.ConnTable.conns c.args.self.now in
+    map_ok c.protocol.result _ (g.T.ConnTable.tells c.args.self.now.table (told_datagram c.args.now c.args.body.now sv) c.protocol.new.self.table)
+    (λ _. subst (λ t. g.T.ConnTable.tells c.args.self.now.table (told_datagram c.args.now c.args.body.now sv) t) (sym c.protocol.ensures.table)
     (subst (λ ws. g.T.ConnTable.tells c.args.self.now.table ws c.args.self.now.table)
-    (sym (protocol_told c.args.now c.args.body.now sv (sym c.decode.ensures ∙ c.in-Other.is))) (g.met.T.ConnTable.tells_nothing c.args.self.now.table)))
-    c.other.ensures.server
+    (sym (unheard_told c.args.now c.args.body.now sv (sym c.decode.ensures ∙ c.in-Other.is) (sym c.too_long_in.ensures ∙ c.in-None.is)))
+    (g.met.T.ConnTable.tells_nothing c.args.self.now.table)))
+    c.protocol.ensures.server
 
 pub returns-in_default-clause-told : goal.returns-in_default-clause-told
 returns-in_default-clause-told g c =
     let sv : ServerOf = server_of g.T.ConnTable.conns c.args.self.now in
     subst (λ t. g.T.ConnTable.tells c.args.self.now.table (told_datagram c.args.now c.args.body.now sv) t) (sym c.pass_over.ensures.table)
     (subst (λ ws. g.T.ConnTable.tells c.args.self.now.table ws c.args.self.now.table)
-    (sym (other_told c.args.now c.args.body.now sv c.decode.result c.decode.ensures c.in_default.not-Segment)) (g.met.T.ConnTable.tells_nothing c.args.self.now.table))
+    (sym (other_told c.args.now c.args.body.now sv c.decode.result c.decode.ensures c.in_default.not-Segment c.in_default.not-Other)) (g.met.T.ConnTable.tells_nothing c.args.self.now.table))

@@ -3,13 +3,13 @@ use Rattle.segment_codec.specs.Refusal.{tuple_of}
 use Rattle.live_server.specs.Acts.{is_over}
 use Rattle.live_server.specs.Isolation.{KeepsStart, Loses}
 use Rattle.live_server.specs.Serving.{ServerOf, server_of}
-use Rattle.live_server.specs.Told.{told_opening, told_taking}
+use Rattle.live_server.specs.Told.{told_admitting, told_taking}
 use Rattle.live_server.specs.declared.conn.Conn.{Conn}
 use Rattle.live_server.proofs.ArriveLemmas.{map_ok, on_ok, start_behind}
 use Rattle.live_server.proofs.LawLemmas.{lost_behind}
 use Rattle.live_server.proofs.LossLemmas.{map_err}
-use Rattle.live_server.proofs.ToldLemmas.{new_one, opening_told}
-use Rattle.live_server.proofs.rules.Rules.open.Goals as goal
+use Rattle.live_server.proofs.ToldLemmas.{new_one, admitting_told}
+use Rattle.live_server.proofs.rules.Rules.admit.Goals as goal
 
 pub returns-clause-lost : goal.returns-clause-lost
 returns-clause-lost g c =
@@ -33,7 +33,7 @@ returns-then-is_over-clause-told g c =
     let made : c.take.new.self ≡ conn = search rules in
     let over : is_over conn ≡ true = ap is_over (sym made) ∙ sym c.is_over.ensures ∙ c.if-is_over.true in
     on_ok c.send.result _
-    (subst (λ ws. g.T.ConnTable.tells c.args.self.now.table ws c.args.self.now.table) (sym (opening_told c.args.now c.args.seg.now c.args.text.now sv true over))
+    (subst (λ ws. g.T.ConnTable.tells c.args.self.now.table ws c.args.self.now.table) (sym (admitting_told c.args.now c.args.seg.now c.args.text.now sv true over))
     (g.met.T.ConnTable.tells_nothing c.args.self.now.table))
 
 pub returns-clause-told : goal.returns-clause-told
@@ -43,8 +43,8 @@ returns-clause-told g c =
     let conn : Conn = new_one c.args.now c.args.seg.now c.args.text.now sv in
     let made : c.take.new.self ≡ conn = search rules in
     let whole : is_over conn ≡ false = ap is_over (sym made) ∙ sym c.is_over.ensures ∙ c.if-is_over.false in
-    map_ok c.take_place.result _ (g.T.ConnTable.tells c.args.self.now.table (told_opening c.args.now c.args.seg.now c.args.text.now sv) c.take_place.new.self.table)
+    map_ok c.take_place.result _ (g.T.ConnTable.tells c.args.self.now.table (told_admitting c.args.now c.args.seg.now c.args.text.now sv) c.take_place.new.self.table)
     (λ told. subst (λ ws. g.T.ConnTable.tells c.args.self.now.table ws c.take_place.new.self.table)
-    ((λ j. told_taking (c.tuple_of-tuple.ensures j) (c.make_place.ensures.place j)) ∙ sym (opening_told c.args.now c.args.seg.now c.args.text.now sv false whole))
+    ((λ j. told_taking (c.tuple_of-tuple.ensures j) (c.make_place.ensures.place j)) ∙ sym (admitting_told c.args.now c.args.seg.now c.args.text.now sv false whole))
     (g.met.T.ConnTable.tells_on c.args.self.now.table c.make_place.new.self.table c.take_place.new.self.table [] (told_taking c.tuple_of-tuple.result mid)
     c.make_place.ensures.told told)) c.take_place.ensures.told
