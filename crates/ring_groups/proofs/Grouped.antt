@@ -1,11 +1,12 @@
 -- Groups: how they are dealt, and what is left of them.
 use Rattle.std.proofs.Common.{◌≡◌, ℕ, zero, suc, ◌+◌, ◌<◌, ◌≤◌, ◌==◌, Bool, true, List, [], ◌∷◌, ◌++◌, length, slice_index_or, take, drop, refl, sym, ap, ◌∙◌, subst, arith, length-append, append_assoc}
-use Rattle.std.specs.Prelude.{reverse}
+use Rattle.std.specs.Prelude.{All, reverse}
 use Rattle.std.proofs.lemmas.Bool.{eqb-true}
 use Rattle.std.proofs.lemmas.List.{reverse-append}
+use Rattle.std.proofs.lemmas.List.Elements.{All-head, All-tail}
 use Rattle.ring_groups.specs.declared.groups.Group.{Group}
 use Rattle.ring_groups.specs.declared.groups.Group.TheVariants as Group'
-use Rattle.ring_groups.specs.Groups.{AllBecame, AllBecameFrom, AllOfGroups, HasServed, HaveEnded, all_in, before_in, ended_in, many_in}
+use Rattle.ring_groups.specs.Groups.{AllBecame, AllBecameFrom, AllOfGroups, HasServed, HaveEnded, MayServe, all_in, before_in, ended_in, many_in}
 
 -- one more of those that are left is taken
 pub taken_more : {A : Type 0} (all done old new : List A) (x : A) → all ≡ done ++ reverse old → old ≡ new ++ x ∷ [] → all ≡ (done ++ x ∷ []) ++ reverse new
@@ -49,6 +50,13 @@ module _ {B A Z : Type 0} where
   dealt_more all old new g was left is more split =
       is ∙ (ap (λ (l : List B). all_in old ++ l) split ∙ (sym (append_assoc (all_in old) (before_in g) (reverse left))
       ∙ ap (λ (l : List B). l ++ reverse left) (sym (ap all_in more ∙ all_more old g))))
+
+  -- as many ends as groups
+  pub many_ends : (gs : List (Group B A Z)) (ds : List A) (zs : List Z) → HaveEnded gs ds zs → length zs ≡ length gs
+  many_ends [] ds zs e = ap length e.1
+  many_ends (Group'.Before all ∷ gs) ds zs e = absurd e
+  many_ends (Group'.After ended end ∷ gs) ds zs e = let n = many_ends gs e.0 e.1 e.4 in ap length e.3 ∙ ap suc n
+  many_ends (Group'.Short ∷ gs) ds zs e = absurd e
 
   pub many_more : (gs : List (Group B A Z)) (g : Group B A Z) → many_in (gs ++ g ∷ []) ≡ many_in gs + ended_in g
   many_more [] g = omega arith
@@ -100,24 +108,24 @@ module _ {B A Z : Type 0} (P : Z → ℕ → B → A → Type 0) where
       one Group'.Short x = omega arith
 
   -- what is left of all groups is what became of all that was dealt
-  pub all_groups : (olds news : List (Group B A Z)) (ds : List A) (zs : List Z) → length news ≡ length olds → ServedEach olds news → HaveEnded news ds zs
+  pub all_groups : (olds news : List (Group B A Z)) (ds : List A) (zs : List Z) → All MayServe olds → length news ≡ length olds → ServedEach olds news → HaveEnded news ds zs
       → AllOfGroups P zs (all_in olds) ds
-  all_groups [] [] ds zs n each e = subst (λ (l : List Z). AllOfGroups P l [] ds) (sym e.1) (refl, e.0)
-  all_groups [] (h ∷ news) ds zs n each e = absurd (omega (arith, n))
-  all_groups (g ∷ olds) [] ds zs n each e = absurd (omega (arith, n))
-  all_groups (g ∷ olds) (Group'.Before ends ∷ news) ds zs n each e = absurd e
-  all_groups (g ∷ olds) (Group'.After ended end ∷ news) ds zs n each e =
+  all_groups [] [] ds zs may n each e = subst (λ (l : List Z). AllOfGroups P l [] ds) (sym e.1) (refl, e.0)
+  all_groups [] (h ∷ news) ds zs may n each e = absurd (omega (arith, n))
+  all_groups (g ∷ olds) [] ds zs may n each e = absurd (omega (arith, n))
+  all_groups (g ∷ olds) (Group'.Before ends ∷ news) ds zs may n each e = absurd e
+  all_groups (g ∷ olds) (Group'.After ended end ∷ news) ds zs may n each e =
       let first = each 0 g (omega arith) in
-      let more = all_groups olds news e.0 e.1 (omega (arith, n)) (others g (Group'.After ended end) olds news each) e.4 in
+      let more = all_groups olds news e.0 e.1 (All-tail MayServe g olds may) (omega (arith, n)) (others g (Group'.After ended end) olds news each) e.4 in
       subst (λ (l : List Z). AllOfGroups P l (before_in g ++ all_in olds) ds) (sym e.3)
-      (before_in g, all_in olds, ended.items, e.0, refl, e.2, first, more)
-  all_groups (g ∷ olds) (Group'.Short ∷ news) ds zs n each e = absurd e
+      (before_in g, all_in olds, ended.items, e.0, (All-head MayServe g olds may).0, refl, e.2, first, more)
+  all_groups (g ∷ olds) (Group'.Short ∷ news) ds zs may n each e = absurd e
 
   -- what follows of each whatever its squeue and its number
   pub of_groups : (Q : B → A → Type 0) → ((z : Z) (k : ℕ) (e : B) (d : A) → P z k e d → Q e d) → (zs : List Z) (es : List B) (ds : List A) → AllOfGroups P zs es ds
       → AllBecame Q es ds
   of_groups Q f [] es ds x = subst (λ (l : List B). AllBecame Q l ds) (sym x.0) (subst (AllBecame Q []) (sym x.1) tt)
-  of_groups Q f (z ∷ zs) es ds (mine, others, its, left, es_are, ds_are, first, more) =
+  of_groups Q f (z ∷ zs) es ds (mine, rest, its, left, some, es_are, ds_are, first, more) =
       subst (λ (l : List B). AllBecame Q l ds) (sym es_are)
-      (subst (AllBecame Q (mine ++ others)) (sym ds_are)
-      (ended_both Q mine others its left (became_so (P z) Q (f z) 0 mine its first) (of_groups Q f zs others left more)))
+      (subst (AllBecame Q (mine ++ rest)) (sym ds_are)
+      (ended_both Q mine rest its left (became_so (P z) Q (f z) 0 mine its first) (of_groups Q f zs rest left more)))

@@ -54,11 +54,11 @@ AllBecameFrom P k [] (d ∷ ds) = ⊥
 AllBecameFrom P k (e ∷ es) [] = ⊥
 AllBecameFrom P k (e ∷ es) (d ∷ ds) = P k e d × AllBecameFrom P (k + 1) es ds
 
--- Of each squeue, in order, some of these are its own: of its end, and of those by their numbers there, this is so
+-- Of each squeue, in order, some of these are its own, at least one: of its end, and of those by their numbers there, this is so
 abbrev pub AllOfGroups : {B A Z : Type 0} → (Z → ℕ → B → A → Type 0) → List Z → List B → List A → Type 0
 AllOfGroups P [] es ds = (es ≡ []) × (ds ≡ [])
 AllOfGroups {B} {A} P (z ∷ zs) es ds =
-    (mine : List B) × (others : List B) × (its : List A) × (left : List A) × (es ≡ mine ++ others) × (ds ≡ its ++ left)
+    (mine : List B) × (others : List B) × (its : List A) × (left : List A) × (1 ≤ length mine) × (es ≡ mine ++ others) × (ds ≡ its ++ left)
     × AllBecameFrom (P z) 0 mine its × AllOfGroups P zs others left
 
 -- a group has ended so, or memory was missing for its squeue

@@ -1,6 +1,6 @@
 //! What is dealt to groups, each of which one squeue serves, and what is left of all groups, by number.
 
-ghost use Rattle.std.specs.Prelude.{◌≡◌, ◌≤◌, ◌+◌, ◌++◌, [], All, IfOk, length, reverse, vec_capacity};
+ghost use Rattle.std.specs.Prelude.{◌≡◌, ◌≤◌, ◌+◌, ◌++◌, [], All, IfOk, length, min, reverse, vec_capacity};
 ghost use Rattle.ring_groups.specs.Groups.{AreGroups, HaveEnded, MayServe, many_in};
 
 use std::alloc::{AllocError, Global};
@@ -23,6 +23,7 @@ pub fn deal<B: Drop, A: Drop, Z: Drop>(
     requires { length all.items ≤ 63 }
     ensures groups { IfOk result (λ v. AreGroups all.items v.items) }
     ensures may { IfOk result (λ v. All MayServe v.items) }
+    ensures many { 1 ≤ squeues → IfOk result (λ v. length v.items ≡ min squeues (length all.items)) }
 {
     let mut all = all;
     let mut groups = Vec::with_capacity(alloc, all.len())?;
@@ -38,10 +39,12 @@ pub fn deal<B: Drop, A: Drop, Z: Drop>(
 }
 
 // How many of so many the next group gets, where so many groups are left.
-#[tactic(auto, using(crate::proofs::Shares::share_fits))]
 fn share(count: usize, groups: usize) -> usize
     requires { 1 ≤ count }
-    ensures { (1 ≤ result) × (result ≤ count) }
+    ensures fits { (1 ≤ result) × (result ≤ count) }
+    ensures leaves { 1 ≤ groups → groups ≤ count → result + groups ≤ count + 1 }
+    ensures few { count ≤ groups → result ≡ 1 }
+    ensures last { groups ≤ 1 → result ≡ count }
 {
     if groups <= 1 {
         count

@@ -1,5 +1,5 @@
 -- The two ends of a ring, and what was made of its items.
-use Rattle.std.proofs.Common.{◌≡◌, Global, ℕ, ◌%◌, ◌^◌, List, [], ◌∷◌, ◌++◌, length, ap, sym, ◌∙◌, subst}
+use Rattle.std.proofs.Common.{◌≡◌, Global, ℕ, ◌%◌, ◌^◌, List, length, ap, sym, ◌∙◌, subst}
 use Rattle.rtrb.specs.declared.AnyItems.{AnyItems}
 use Rattle.rtrb.specs.declared.consumer.Consumer.{Consumer}
 use Rattle.rtrb.specs.declared.producer.Producer.{Producer}
@@ -8,11 +8,6 @@ use Rattle.squeue_streams.specs.declared.streams.Stream.{Stream}
 use Rattle.squeue_streams.specs.Taking.{IsStreamOf, SameStream, Takes, input_of, items_of, state_of}
 use Rattle.squeue_streams.proofs.Items.{same_end}
 use Rattle.stream_stays.specs.Staying.{IsOfRing}
-
--- what was made of the last of some items
-pub takes_behind : {T S : Type 0} (step : S → T → S → Type 0) (from to : S) (xs ys : List T) → Takes step from (xs ++ ys) to → (at : S) × Takes step at ys to
-takes_behind step from to [] ys t = (from, t)
-takes_behind step from to (x ∷ xs) ys t = takes_behind step t.0 to xs ys t.2
 
 module _ {T : Type 0} where
   -- who has one end has it also where the other one went on
@@ -45,8 +40,3 @@ module _ {T : Type 0} where
             taken = still_made b same;
             counted = same.count ∙ (is.counted ∙ sym (ap (λ (xs : List T). length xs % 2 ^ 64) same.items));
           }
-
-      -- of all items the last ones made its state
-      pub made_of : (b : Stream T S) (before mine all : List T) → SameStream a b → items_of b ≡ all → all ≡ before ++ mine → (from : S) × Takes (step o) from mine (state_of b)
-      made_of b before mine all same are split =
-          takes_behind (step o) is.first (state_of b) before mine (subst (λ (xs : List T). Takes (step o) is.first xs (state_of b)) (are ∙ split) (still_made b same))

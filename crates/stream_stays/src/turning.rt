@@ -1,6 +1,6 @@
 //! How a place is opened and closed.
 
-ghost use Rattle.std.specs.Prelude.{◌≡◌, ◌+◌, ◌≤◌, ◌++◌, [], List, Some, false};
+ghost use Rattle.std.specs.Prelude.{◌≡◌, ◌+◌, ◌≤◌, [], Some, false};
 ghost use Rattle.turn_gate.specs.Passes.{number, seen};
 ghost use Rattle.perimeter_core.specs.declared.marks.SynchAct.TheVariants as Done;
 ghost use Rattle.perimeter_core.specs.Deeds.{acts, due, fed};
@@ -8,11 +8,11 @@ ghost use Rattle.placed_parts.specs.Placing.{limits_of, origin_of};
 ghost use Rattle.squeue_state.specs.Naming.{setting_of};
 ghost use Rattle.conn_migrate.specs.Moving.{MayLeave, Moved, RingLearns};
 ghost use Rattle.rtrb.specs.Ring.{ProducerLooked, sent};
-ghost use Rattle.squeue_streams.specs.Taking.{IsStreamOf, Takes, items_of, state_of};
+ghost use Rattle.squeue_streams.specs.Taking.{IsStreamOf, items_of};
 ghost use Rattle.stream_stays.specs.declared.stay.Stay.{Stay};
 ghost use Rattle.stream_stays.specs.declared.stay.Vacant.{Vacant};
 ghost use Rattle.stream_stays.specs.declared.place.Place.TheVariants.{Open, Vacant as Vacant'};
-ghost use Rattle.stream_stays.specs.Staying.{IsBegun, IsOfRing, before_of, leaves_of, pushed_of, sent_of};
+ghost use Rattle.stream_stays.specs.Staying.{IsBegun, IsOfRing, leaves_of, pushed_of, sent_of};
 ghost use Rattle.stream_stays.specs.Settling.{sent_in};
 ghost use Rattle.stream_stays.specs.Places.{CanOpen, IsOpen, Knows, SameElsewhere, chain_of, life_of, place_at, touched_of};
 
@@ -59,8 +59,8 @@ pub fn open_at<X: Steps + Drop, H: Wait + Drop, W: Wait>(
 }
 
 /// Closes a place that is entered and settled: its part is taken out. The history has a feed of it for each item that was pushed since it
-/// was opened, its ring is empty, and its state is what the steps make of these items, one after another, from the state that it had
-/// by those before. It takes one ask of the pass's life.
+/// was opened, its ring is empty, and its state is what the steps make of all items that were ever pushed, one after another, from one in
+/// which its part may begin. It takes one ask of the pass's life.
 pub fn close_at<X: Steps + Drop, H: Wait + Drop, W: Wait>(
     sq: &Squeue<Places<Streams<X, H>>>,
     rt: &W,
@@ -81,8 +81,7 @@ pub fn close_at<X: Steps + Drop, H: Wait + Drop, W: Wait>(
     ensures closed { (stay : Stay X.Item) × (vacant : Vacant X.Item X.State) × (place_at stays.old c ≡ Some (Open stay))
         × (place_at stays.new c ≡ Some (Vacant' vacant)) × (leaves_of stay ≡ vacant.leaves + 1)
         × (fed (acts (setting_of limits_of sq.now.given) (seen result) c) ≡ pushed_of stay) × (items_of vacant.part ≡ sent_of stay)
-        × ((mine : List X.Item) → sent_of stay ≡ before_of stay ++ mine
-        → (from : X.State) × Takes (X.step (origin_of sq.now.given.first)) from mine (state_of vacant.part)) }
+        × IsStreamOf X.begins X.step (origin_of sq.now.given.first) c vacant.part }
     ensures sent { sent_in (place_at stays.new c) ≡ sent_in (place_at stays.old c) }
     ensures rest { (chain_of stays.new ≡ []) × (touched_of stays.new ≡ []) }
     ensures spent { ((life_of stays.new).feeds ≡ (life_of stays.old).feeds) × ((life_of stays.old).asks ≡ (life_of stays.new).asks + 1) }

@@ -1,4 +1,4 @@
-use Rattle.std.proofs.Common.{◌≡◌, ◌+◌, ◌≤◌, ◌++◌, length, vec_capacity}
+use Rattle.std.proofs.Common.{◌≡◌, ◌+◌, ◌≤◌, ◌++◌, length, min, vec_capacity}
 use Rattle.std.specs.Prelude.{All, reverse}
 use Rattle.ring_groups.specs.Groups.{MayServe, all_in}
 use Rattle.ring_groups.proofs.groups.deal.Given as goal
@@ -10,6 +10,8 @@ invariant-groups g l =
       dealt : l.fn.all.items ≡ all_in l.groups.items ++ reverse l.all.items;
       may : All MayServe l.groups.items;
       few : length l.all.items ≤ 63;
+      left : 1 ≤ l.fn.squeues → 1 ≤ length l.all.items → 1 ≤ l.left;
+      many : 1 ≤ l.fn.squeues → length l.groups.items + min l.left (length l.all.items) ≡ min l.fn.squeues (length l.fn.all.items);
       room : length l.groups.items + length l.all.items ≤ vec_capacity l.groups;
     }
 

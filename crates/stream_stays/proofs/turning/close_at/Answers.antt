@@ -1,7 +1,6 @@
 use Rattle.std.proofs.Common.{◌-◌, ◌∙◌, ap, sym, refl, subst, arith, Global, ℕ}
 use Rattle.placed_parts.specs.Placing.{limits_of, origin_of}
-use Rattle.squeue_streams.specs.Taking.{Takes, state_of}
-use Rattle.stream_stays.specs.Staying.{IsOfRing, before_of, producer_of}
+use Rattle.stream_stays.specs.Staying.{IsOfRing, producer_of}
 use Rattle.stream_stays.specs.Places.{chain_of}
 use Rattle.stream_stays.specs.Settling.{sent_in}
 use Rattle.squeue_state.specs.declared.guarded.Life.{Life}
@@ -10,7 +9,6 @@ use Rattle.std.specs.Prelude.{Vec}
 use Rattle.stream_stays.specs.declared.stay.Vacant.{Vacant}
 use Rattle.stream_stays.proofs.Kept.{due_pushed, elsewhere_by, knows_turned, may_leave_open, none_touched, vacated}
 use Rattle.stream_stays.proofs.Knowing.{life_moved}
-use Rattle.stream_stays.proofs.Rings.{takes_behind}
 use Rattle.stream_stays.proofs.turning.close_at.Goals as goal
 
 pub take_whole-pass-requires-clause-may : goal.take_whole-pass-requires-clause-may
@@ -68,7 +66,7 @@ returns-clause-closed g c =
       omega (arith, more),
       whole.all ∙ due_pushed g.X.Steps.begins g.X.Steps.step limits_of s o c.args.pass (chain_of c.args.stays.now) c.args.c a c.requires.entered lies,
       whole.items,
-      λ mine split. takes_behind (g.X.Steps.step o) whole.part.first (state_of part) (before_of a) mine (subst (λ xs. Takes (g.X.Steps.step o) whole.part.first xs (state_of part)) (whole.items ∙ split) whole.part.taken),
+      whole.part,
     )
 
 pub returns-clause-sent : goal.returns-clause-sent
