@@ -2,7 +2,7 @@ ghost use Rattle.std.specs.Prelude.{◌≤◌};
 ghost use Rattle.squeue_arrivals.specs.Pooling.{IsInRange};
 
 use squeue_answers::{Kept, KeyAnswers, serve_answering};
-use squeue_arrivals::{ArrivalPool, Listed};
+use squeue_arrivals::{ArrivalPool, Listed, SPAN};
 use squeue_enter::Mode;
 use std::alloc::{AllocError, Global};
 use std::test::*;
@@ -32,7 +32,7 @@ impl KeyAnswers for Running {
     }
 }
 
-fn pool_of(squeues: u32, mode: Mode) -> ArrivalPool
+fn pool_of(squeues: u32, mode: Mode, span: u32) -> ArrivalPool
     requires { 1 ≤ squeues }
     ensures { IsInRange result }
 {
@@ -42,18 +42,22 @@ fn pool_of(squeues: u32, mode: Mode) -> ArrivalPool
         room: 16,
         mode,
         budget: 4,
+        span,
     }
 }
 
-// Each amount of two sources is answered in order, in each mode and by each number of squeues.
+// Each amount of two sources is answered in order, in each mode and by each number of squeues, and where places are opened anew.
 #[test]
 fn sums_are_answered(rt: HostRuntime) -> Result<(), Fail> {
     let alloc = rt.alloc();
-    for (squeues, mode) in [
-        (1, Mode::Process),
-        (2, Mode::Process),
-        (1, Mode::Fill),
-        (1, Mode::NoDrain),
+    for (squeues, mode, span) in [
+        (1, Mode::Process, SPAN),
+        (2, Mode::Process, SPAN),
+        (1, Mode::Fill, SPAN),
+        (1, Mode::NoDrain, SPAN),
+        (1, Mode::Process, 1),
+        (2, Mode::NoDrain, 5),
+        (1, Mode::Fill, 100),
     ] {
         let mut first = Vec::new(alloc);
         for n in 0..1_000 {
@@ -64,7 +68,7 @@ fn sums_are_answered(rt: HostRuntime) -> Result<(), Fail> {
             (Listed::of(first), Kept::none(alloc)),
             (Listed::of(second), Kept::none(alloc)),
         ]?;
-        let pool = pool_of(squeues, mode);
+        let pool = pool_of(squeues, mode, span);
         let served = serve_answering(&rt, alloc, &pool, 8, Running, sources)?.sources;
         assert_eq!(rt; served.len(), 2);
         let answers = served[0].sink.answers();
@@ -91,7 +95,7 @@ fn refused_item_has_no_answer(rt: HostRuntime) -> Result<(), Fail> {
     let alloc = rt.alloc();
     let items = [(5, 1), (6, 2), (5, 3), (7, 4), (8, 9), (5, 5)].to_vec(alloc)?;
     let sources = vec![in alloc; (Listed::of(items), Kept::none(alloc))]?;
-    let pool = pool_of(1, Mode::Process);
+    let pool = pool_of(1, Mode::Process, SPAN);
     let served = serve_answering(&rt, alloc, &pool, 1, Running, sources)?.sources;
     assert_eq!(rt;
         served[0].sink.answers(),

@@ -1,5 +1,5 @@
 use arriving_counters::count;
-use squeue_arrivals::{Arrival, ArrivalPool, Arrivals, Cause, Listed, ServedSource};
+use squeue_arrivals::{Arrival, ArrivalPool, Arrivals, Cause, Listed, SPAN, ServedSource};
 use squeue_enter::Mode;
 use std::alloc::{AllocError, Global};
 use std::test::*;
@@ -16,15 +16,20 @@ fn told(
     Ok(all)
 }
 
-// Two sources, served in each mode by so many squeues.
+// Two sources, served in each mode by so many squeues; with places that stay open to the end, and that are opened anew before each item, or
+// behind a few of them.
 #[test]
 fn sums_arrive(rt: HostRuntime) -> Result<(), Fail> {
     let alloc = rt.alloc();
-    for (squeues, mode) in [
-        (1, Mode::Process),
-        (2, Mode::Process),
-        (1, Mode::Fill),
-        (1, Mode::NoDrain),
+    for (squeues, mode, span) in [
+        (1, Mode::Process, SPAN),
+        (2, Mode::Process, SPAN),
+        (1, Mode::Fill, SPAN),
+        (1, Mode::NoDrain, SPAN),
+        (1, Mode::Process, 1),
+        (2, Mode::Process, 7),
+        (1, Mode::Fill, 100),
+        (1, Mode::NoDrain, 0),
     ] {
         let pool = ArrivalPool {
             squeues,
@@ -32,6 +37,7 @@ fn sums_arrive(rt: HostRuntime) -> Result<(), Fail> {
             room: 16,
             mode,
             budget: 4,
+            span,
         };
         let mut first = Vec::new(alloc);
         for n in 0..1_000 {
@@ -63,6 +69,7 @@ fn third_key_is_refused(rt: HostRuntime) -> Result<(), Fail> {
         room: 8,
         mode: Mode::Process,
         budget: 4,
+        span: SPAN,
     };
     let items = [(5, 1), (6, 2), (5, 3), (7, 4), (5, 5)].to_vec(alloc)?;
     let sources = vec![in alloc; Listed::of(items)]?;
@@ -96,6 +103,7 @@ fn nothing_arrives(rt: HostRuntime) -> Result<(), Fail> {
         room: 1,
         mode: Mode::Fill,
         budget: 1,
+        span: SPAN,
     };
     let none: Vec<Listed<u32>> = Vec::new(alloc);
     let served = count(&rt, alloc, &pool, none)?;

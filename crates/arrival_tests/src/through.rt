@@ -3,7 +3,7 @@ ghost use Rattle.squeue_arrivals.specs.Pooling.{IsInRange};
 use arriving_counters::count;
 use crossbeam_channel::{Sender, bounded};
 use rtrb::{Producer, PushError, RingBuffer};
-use squeue_arrivals::{ArrivalPool, Channelled, Iterated, KeyPart, Piped};
+use squeue_arrivals::{ArrivalPool, Channelled, Iterated, KeyPart, Piped, SPAN};
 use squeue_enter::Mode;
 use std::sync::Wait;
 use std::test::*;
@@ -18,6 +18,7 @@ fn pool() -> ArrivalPool
         room: 16,
         mode: Mode::Process,
         budget: 4,
+        span: SPAN,
     }
 }
 

@@ -6,7 +6,7 @@ use Rattle.key_limiter.specs.Limiting.{decided_from, decisions_of, full, level_a
 use Rattle.key_limiter.specs.declared.limiter.Level.{Level}
 use Rattle.squeue_streams.specs.Taking.{Takes}
 use Rattle.squeue_arrivals.specs.Arriving.{IsMadeOf, items_for, keys_of, refused_in}
-use Rattle.squeue_arrivals.specs.Giving.{given_by}
+use Rattle.squeue_arrivals.specs.Channelling.{received_by}
 use Rattle.squeue_arrivals.specs.declared.channelled.Channelled.{Channelled}
 use Rattle.squeue_arrivals.specs.declared.served.KeyPart.{KeyPart}
 use Rattle.squeue_answers.specs.Answering.{ByAnswered, IsAnswered, answers_in, items_in}
@@ -46,12 +46,12 @@ part_at (p ∷ parts) (suc i) k less is = part_at parts i k (omega (arith, less)
 
 -- a channel and a list from which and to which nothing came
 abbrev pub IsFresh : {W : Type 0} → Channelled ℕ W × Kept Bool → Type 0
-IsFresh s = (given_by s.0.given ≡ []) × (kept_of s.1 ≡ [])
+IsFresh s = (received_by s.0 ≡ []) × (kept_of s.1 ≡ [])
 
 module _ {V : Type 0} (w : Limiting) (most : ℕ) where
   abbrev pub WasAnswered : Channelled ℕ V × Kept Bool → AnsweredSource (Channelled ℕ V) (Kept Bool) ℕ Level → Type 0
   WasAnswered =
-      IsAnswered {O = Unit {0}} (λ w level. level ≡ full w.limit) Answers (λ s. tt) (λ s. given_by s.given) (λ s. Unit {0}) kept_of w most
+      IsAnswered {O = Unit {0}} (λ w level. level ≡ full w.limit) Answers (λ s. tt) received_by (λ s. Unit {0}) kept_of w most
 
   limited : (source : Channelled ℕ V × Kept Bool) (left : AnsweredSource (Channelled ℕ V) (Kept Bool) ℕ Level) → IsFresh source → WasAnswered source left → IsLimited w.limit most left
   limited source left fresh was =

@@ -5,7 +5,7 @@ use Rattle.key_limiter.specs.Limiting.{decisions_of, full, level_by}
 use Rattle.key_limiter.specs.declared.limiter.Level.{Level}
 use Rattle.key_limiter.specs.declared.limiter.Limit.{Limit}
 use Rattle.squeue_arrivals.specs.Arriving.{HasCause, items_for, keys_of, refused_in}
-use Rattle.squeue_arrivals.specs.Giving.{given_by}
+use Rattle.squeue_arrivals.specs.Channelling.{received_by}
 use Rattle.squeue_arrivals.specs.declared.channelled.Channelled.{Channelled}
 use Rattle.squeue_arrivals.specs.declared.served.KeyPart.{KeyPart}
 use Rattle.squeue_arrivals.specs.declared.served.Refused.{Refused}
@@ -18,7 +18,7 @@ use Rattle.squeue_answers.specs.declared.sinks.Kept.{Kept}
 -- requests of a key are answered is what the limiter decides of their times, in order. There is one part for each key among them, and no other
 pub record IsLimited {W : Type 0} (limit : Limit) (most : ℕ) (left : AnsweredSource (Channelled ℕ W) (Kept Bool) ℕ Level) : Type 0 where
   pub all : List (ℕ × (ℕ × Bool))
-  pub its_requests : given_by left.source.given ≡ items_in all ++ refused_in left.refused
+  pub its_requests : received_by left.source ≡ items_in all ++ refused_in left.refused
   pub its_answers : kept_of left.sink ≡ answers_in all
   pub by_rule : (k : ℕ) → map (λ x. x.1) (items_for k all) ≡ decisions_of limit (map (λ x. x.0) (items_for k all))
   pub distinct : IsDistinct nat_eq (keys_of left.parts.items)

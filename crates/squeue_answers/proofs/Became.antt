@@ -1,6 +1,7 @@
 -- What became of a list that was made of another, and what became of that.
 use Rattle.std.proofs.Common.{◌≡◌, ℕ, ◌+◌, ◌<◌, List, [], ◌∷◌, ◌++◌, length, map, slice_index_or, refl, ap, sym, ◌∙◌, subst, arith, length-append}
 use Rattle.std.specs.Prelude.{All}
+use Rattle.std.proofs.lemmas.List.{length-map}
 use Rattle.std.proofs.lemmas.List.Elements.{All-cons, All-nil}
 use Rattle.ring_groups.specs.Groups.{AllBecame, AllBecameFrom, AllOfGroups}
 use Rattle.ring_groups.proofs.Grouped.{ended_both}
@@ -72,12 +73,13 @@ module _ {B M : Type 0} (f : B → M) where
 
     pub groups_back : {Z : Type 0} (P : Z → ℕ → M → A → Type 0) (zs : List Z) (bs : List B) (ds : List A) → AllOfGroups P zs (map f bs) ds → AllOfGroups (λ z k b d. P z k (f b) d) zs bs ds
     groups_back P [] bs ds x = (none_back bs x.0, x.1)
-    groups_back P (z ∷ zs) bs ds (mine, others, its, left, es_are, ds_are, first, more) =
+    groups_back P (z ∷ zs) bs ds (mine, others, its, left, some, es_are, ds_are, first, more) =
         let s = split_map bs mine others es_are in (
           s.0,
           s.1,
           its,
           left,
+          omega (arith, some, ap length s.3, length-map s.0 f),
           s.2,
           ds_are,
           from_back (P z) 0 s.0 its (subst (λ (l : List M). AllBecameFrom (P z) 0 l its) s.3 first),
@@ -111,6 +113,6 @@ module _ {B M A : Type 0} (F : M → A → Type 0) where
   pub groups_on : {Z : Type 0} (P : Z → ℕ → B → M → Type 0) (Q : Z → ℕ → B → A → Type 0) → ((z : Z) (k : ℕ) (b : B) (m : M) (d : A) → P z k b m → F m d → Q z k b d) → (zs : List Z) (bs : List B)
       (ms : List M) (ds : List A) → AllOfGroups P zs bs ms → AllBecame F ms ds → AllOfGroups Q zs bs ds
   groups_on P Q f [] bs ms ds x y = (x.0, none_on F ds (subst (λ (l : List M). AllBecame F l ds) x.1 y))
-  groups_on P Q f (z ∷ zs) bs ms ds (mine, others, its, left, es_are, ms_are, first, more) y =
+  groups_on P Q f (z ∷ zs) bs ms ds (mine, others, its, left, some, es_are, ms_are, first, more) y =
       let s = split_became F its left ds (subst (λ (l : List M). AllBecame F l ds) ms_are y) in
-      (mine, others, s.0, s.1, es_are, s.2, from_on (P z) (Q z) (f z) 0 mine its s.0 first s.3, groups_on P Q f zs others left s.1 more s.4)
+      (mine, others, s.0, s.1, some, es_are, s.2, from_on (P z) (Q z) (f z) 0 mine its s.0 first s.3, groups_on P Q f zs others left s.1 more s.4)

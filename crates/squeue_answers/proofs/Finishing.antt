@@ -10,7 +10,7 @@ use Rattle.rtrb.specs.Ring.{IsPair}
 use Rattle.histories.specs.Endings.{Ending}
 use Rattle.squeue_streams.specs.Taking.{Takes}
 use Rattle.squeue_arrivals.specs.Arriving.{HasCause, IsMadeOf, items_for, keys_of, refused_in}
-use Rattle.squeue_arrivals.specs.Stayed.{HasStay}
+use Rattle.squeue_arrivals.specs.Stayed.{WasFed}
 use Rattle.squeue_arrivals.specs.declared.served.Cause.{Cause}
 use Rattle.squeue_arrivals.specs.declared.served.Cause.TheVariants as Cause'
 use Rattle.squeue_arrivals.specs.declared.served.KeyPart.{KeyPart}
@@ -55,8 +55,6 @@ module _ {T A : Type 0} where
 
   pub cause_plain : (c : Cause) (most many k : ℕ) (all : List (ℕ × Asked T A)) → HasCause c most many all k → HasCause c most many (plain all) k
   cause_plain Cause'.NoPlace most many k all h = (h.0, plain_for k all ∙ ap (map (λ x. x.item)) h.1)
-  cause_plain Cause'.KeyIsFull most many k all h =
-      let same : length (items_for k (plain all)) ≡ length (items_for k all) = ap length (plain_for k all) ∙ length-map (items_for k all) (λ x. x.item) in omega (arith, h, same)
   cause_plain Cause'.LifeIsOver most many k all h = let same : length (plain all) ≡ length all = length-map all (λ e. (e.0, e.1.item)) in omega (arith, h, same)
 
 module _ {S A : Type 0} where
@@ -245,8 +243,8 @@ module _ {V W T A S X K O : Type 0} (steps_of : V → W) (begins : W → S → T
           stays = λ i part at.
               let p = plain_at left.parts.items i part (ap (λ (l : List (KeyPart S)). slice_get l i) (sym parts_are) ∙ at) in
               let many = many_for source left h.by.served rings result fin compared came source_is parts_are refused_is p.0.key in
-              let there = subst (λ (n : ℕ). HasStay end.setting k (k + i * end.setting.rings) n end.history) (sym many) (h.by.stays i p.0 p.1) in
-              subst (λ (x : KeyPart S). HasStay end.setting k (k + i * end.setting.rings) (length (items_for x.key (answered_by h.by.served.all fin.done))) end.history) (sym p.2) there;
+              let there = subst (λ (n : ℕ). WasFed end.setting k (k + i * end.setting.rings) n end.history) (sym many) (h.by.stays i p.0 p.1) in
+              subst (λ (x : KeyPart S). WasFed end.setting k (k + i * end.setting.rings) (length (items_for x.key (answered_by h.by.served.all fin.done))) end.history) (sym p.2) there;
         };
       }
 

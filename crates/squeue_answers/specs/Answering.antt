@@ -4,7 +4,7 @@ use Rattle.std.specs.List.{IsDistinct}
 use Rattle.perimeter_core.specs.History.{Element, Setting}
 use Rattle.histories.specs.Endings.{Ending, HasEnded}
 use Rattle.squeue_arrivals.specs.Arriving.{HasGiven, IsMadeOf, items_for, keys_of}
-use Rattle.squeue_arrivals.specs.Stayed.{HasStay}
+use Rattle.squeue_arrivals.specs.Stayed.{WasFed}
 use Rattle.squeue_arrivals.specs.declared.served.KeyPart.{KeyPart}
 use Rattle.squeue_answers.specs.declared.serving.AnsweredSource.{AnsweredSource}
 
@@ -33,12 +33,12 @@ module _ {W T A S X K O : Type 0} (begins : W → S → Type 0) (step : W → S 
         → (items_for part.key all ≢ []) × IsMadeOf begins (ByAnswered step) work (items_for part.key all) part.state
     pub every : (k : ℕ) → items_for k all ≢ [] → Contains (keys_of left.parts.items) k
 
-  -- and in this history of this setting ring k took out the part of each key, which had had a feed for each of its items: the part of the
-  -- i-th key is number k plus i times the rings
+  -- and in this history of this setting the part of each key had a feed for each of its items, in stays each of which ring k ended: the part
+  -- of the i-th key is number k plus i times the rings
   pub record IsAnsweredBy (at : Setting) (k : ℕ) (H : List Element) (source : X × K) (left : AnsweredSource X K T S) : Type 0 where
     pub answered : IsAnswered source left
     pub stays : (i : ℕ) (part : KeyPart S) → slice_get left.parts.items i ≡ Some part
-        → HasStay at k (k + i * at.rings) (length (items_for part.key answered.all)) H
+        → WasFed at k (k + i * at.rings) (length (items_for part.key answered.all)) H
 
   -- so it is in the history of an ended squeue, which is legal and over, where the source's ring had this number
   pub record IsAnsweredIn (end : Ending) (k : ℕ) (source : X × K) (left : AnsweredSource X K T S) : Type 0 where

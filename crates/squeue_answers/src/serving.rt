@@ -1,5 +1,5 @@
 //! Sources and sinks, served: each sink gets what its source's items are answered.
-ghost use Rattle.std.specs.Prelude.{◌≡◌, ◌≤◌, [], All, IfOk, length, map, vec_capacity};
+ghost use Rattle.std.specs.Prelude.{◌≡◌, ◌≤◌, [], All, IfOk, length, map, min, vec_capacity};
 ghost use Rattle.ring_groups.specs.Groups.{AllBecame, AllOfGroups};
 ghost use Rattle.squeue_arrivals.specs.Pooling.{IsInRange};
 ghost use Rattle.squeue_answers.specs.Answering.{IsAnswered, IsAnsweredIn};
@@ -77,6 +77,7 @@ where
     requires sources { length sources.items ≤ 63 }
     ensures served { IfOk result (λ r. AllBecame (IsAnswered X.begins X.step A.origin A.given A.is_over K.got steps pool.now.places) sources.items r.sources.items) }
     ensures histories { IfOk result (λ r. AllOfGroups (IsAnsweredIn X.begins X.step A.origin A.given A.is_over K.got steps pool.now.places) r.squeues.items sources.items r.sources.items) }
+    ensures squeues { IfOk result (λ r. length r.squeues.items ≡ min pool.now.squeues (length sources.items)) }
 {
     let rooms = rooms_of(alloc, sources.len(), pool.places as usize)?;
     let room = Vec::with_capacity(alloc, sources.len())?;

@@ -1,5 +1,5 @@
 //! Sinks: a list, and a channel.
-ghost use Rattle.std.specs.Prelude.{◌≡◌, ◌++◌, ◌∷◌, [], true, false};
+ghost use Rattle.std.specs.Prelude.{◌≡◌, [], true, false};
 ghost use Rattle.squeue_answers.specs.Getting.{got_by};
 
 use crate::answering::Sink;

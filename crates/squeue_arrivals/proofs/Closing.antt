@@ -1,5 +1,5 @@
 -- How the places of keys are closed, one after another, and what is at them then.
-use Rattle.std.proofs.Common.{◌≡◌, ◌≢◌, ℕ, ◌+◌, ◌<◌, ◌≤◌, inl, inr, Some, List, [], length, slice_get, ap, sym, ◌∙◌, subst, arith}
+use Rattle.std.proofs.Common.{◌≡◌, ◌≢◌, ℕ, ◌+◌, ◌<◌, ◌≤◌, inl, inr, Some, List, [], length, slice_get, refl, ap, sym, ◌∙◌, subst, arith}
 use Rattle.std.specs.Prelude.{All}
 use Rattle.std.proofs.lemmas.Bool.{cases_eq}
 use Rattle.std.proofs.lemmas.Option.{get_or_from_slice_get, slice_get_within}
@@ -22,71 +22,71 @@ use Rattle.stream_stays.specs.Settling.{sent_in}
 use Rattle.stream_stays.specs.Staying.{pushed_of}
 use Rattle.squeue_arrivals.specs.Arriving.{IsMadeOf, items_for}
 use Rattle.squeue_arrivals.specs.Keyed.{AreBegun, IsFirst, Tells, first_of, work_of}
-use Rattle.squeue_arrivals.specs.Keeping.{AreClosed, HasKeys, IsVacant, IsWhole, Keeps}
+use Rattle.squeue_arrivals.specs.Keeping.{AreClosed, HasKeys, IsVacant, Keeps, Serves}
 use Rattle.squeue_arrivals.specs.Placed.{keys_in, place_of}
-use Rattle.squeue_arrivals.specs.Stayed.{HasStay}
+use Rattle.squeue_arrivals.specs.Stayed.{WasFed}
 use Rattle.squeue_arrivals.specs.declared.ring_keys.RingKeys.{RingKeys}
 use Rattle.squeue_arrivals.specs.declared.steps.Keyed.{Keyed}
-use Rattle.squeue_arrivals.proofs.KeysKept.{place_apart}
-use Rattle.squeue_arrivals.proofs.StaysKept.{pushed_whole, stay_of, stay_on}
+use Rattle.squeue_arrivals.proofs.KeysKept.{keys_kept, place_apart}
+use Rattle.squeue_arrivals.proofs.PlacesKept.{but_elsewhere, fed_all, sent_there, serves_on}
+use Rattle.squeue_arrivals.proofs.StaysKept.{fed_on}
 
 module _ {R T : Type 0} (limits : R → Limits) (s : Named R) (all : List (ℕ × T)) where
-  -- what the pass has seen has a stay at this place, with a feed for each item of the key
+  -- what the pass has seen has stays of this part, with a feed for each item of the key
   abbrev pub Stayed : Pass Element → ℕ → ℕ → Type 0
-  Stayed p c key = HasStay (setting_of limits s.given) (number p) c (length (items_for key all)) (seen p)
-
-  stayed_on : (p q : Pass Element) (c key : ℕ) → Begins (seen p) (seen q) → number q ≡ number p → Stayed p c key → Stayed q c key
-  stayed_on p q c key grows same has =
-      let now = stay_on (setting_of limits s.given) (number p) c (length (items_for key all)) (seen p) (seen q) grows has in
-      subst (λ (m : ℕ). HasStay (setting_of limits s.given) m c (length (items_for key all)) (seen q)) (sym same) now
+  Stayed p c key = WasFed (setting_of limits s.given) (number p) c (length (items_for key all)) (seen p)
 
   module _ {S : Type 0} where
+    -- the part of the place serves the key
+    abbrev pub ServesKey : Pass Element → Stays T S → ℕ → ℕ → Type 0
+    ServesKey p st c key = Serves (setting_of limits s.given) p st c (items_for key all) (length (items_for key all))
+
     -- the places of the first so many keys are closed, and those of the others are open
     pub record IsClosing (n : ℕ) (p : Pass Element) (st : Stays T S) (k : RingKeys) : Type 0 where
       pub closed : (j key : ℕ) → j < n → slice_get (keys_in k) j ≡ Some key
           → IsVacant st (place_of k j) × (sent_in (place_at st (place_of k j)) ≡ items_for key all) × Stayed p (place_of k j) key
-      pub opens : (j key : ℕ) → n ≤ j → slice_get (keys_in k) j ≡ Some key → IsWhole st (place_of k j) × (sent_in (place_at st (place_of k j)) ≡ items_for key all)
-
-    -- the part of the place was taken out, to which all items of its key had been pushed since it came
-    taken_out : (p q : Pass Element) (a : Stays T S) (c key : ℕ) (stay : Stay T) → IsWhole a c → sent_in (place_at a c) ≡ items_for key all → place_at a c ≡ Some (Open stay)
-        → Moved limits s (Done.Out c) [] p q → fed (acts (setting_of limits s.given) (seen q) c) ≡ pushed_of stay → number q ≡ number p → Stayed q c key
-    taken_out p q a c key stay whole sent at moved feeds same =
-        let many : pushed_of stay ≡ length (items_for key all) = pushed_whole a c stay whole at ∙ ap length sent in
-        subst (λ (m : ℕ). HasStay (setting_of limits s.given) m c (length (items_for key all)) (seen q)) (sym same)
-        (stay_of limits s c (length (items_for key all)) p q moved (feeds ∙ many))
+      pub opens : (j key : ℕ) → n ≤ j → slice_get (keys_in k) j ≡ Some key → ServesKey p st (place_of k j) key
 
     -- one place more is closed
     pub closing_more : (n c : ℕ) (p q : Pass Element) (a b : Stays T S) (k : RingKeys) (stay : Stay T) → IsClosing n p a k → c ≡ place_of k n → SameElsewhere c a b → IsVacant b c
         → sent_in (place_at b c) ≡ sent_in (place_at a c) → place_at a c ≡ Some (Open stay) → Moved limits s (Done.Out c) [] p q
         → fed (acts (setting_of limits s.given) (seen q) c) ≡ pushed_of stay → number q ≡ number p → IsClosing (n + 1) q b k
     closing_more n c p q a b k stay was here same vacant sent at moved feeds number_is =
+        let others = but_elsewhere c a b same in
+        let grows = moved.goes_on.grows in
         record {
           closed = λ j key lt got. elim (cases_eq j n) [
             | inl last ↦
                 let le : n ≤ j = omega (arith, last) in
-                let open_there = was.opens j key le got in
-                let place : c ≡ place_of k j = here ∙ ap (place_of k) (sym last) in
-                let whole = subst (IsWhole a) (sym place) open_there.0 in
-                let its_items = subst (λ (d : ℕ). sent_in (place_at a d) ≡ items_for key all) (sym place) open_there.1 in
-                subst (λ (d : ℕ). IsVacant b d × (sent_in (place_at b d) ≡ items_for key all) × Stayed q d key) place
-                (vacant, sent ∙ its_items, taken_out p q a c key stay whole its_items at moved feeds number_is)
+                let place : place_of k j ≡ c = ap (place_of k) last ∙ sym here in
+                let open_here = subst (λ (d : ℕ). ServesKey p a d key) place (was.opens j key le got) in
+                let many = length (items_for key all) in
+                let items = sent_there (setting_of limits s.given) p a c many (items_for key all) open_here in
+                subst (λ (d : ℕ). IsVacant b d × (sent_in (place_at b d) ≡ items_for key all) × Stayed q d key) (sym place)
+                (vacant, sent ∙ items, fed_all limits s p q a c many (items_for key all) stay open_here at moved feeds number_is)
             | inr apart ↦
                 let h = was.closed j key (omega (arith, lt, apart)) got in
-                let is = same.others (place_of k j) (subst (λ (d : ℕ). place_of k j ≢ d) (sym here) (place_apart k j n apart)) in
-                ((h.0.0, is ∙ h.0.1), ap sent_in is ∙ h.1, stayed_on p q (place_of k j) key moved.goes_on.grows number_is h.2)
+                let many = length (items_for key all) in
+                let is = same.others (place_of k j) (subst (λ (d : ℕ). place_of k j ≢ d) (sym here) (place_apart k j n apart)) in (
+                  (h.0.0, is ∙ h.0.1),
+                  ap sent_in is ∙ h.1,
+                  fed_on (setting_of limits s.given) (number p) (number q) (place_of k j) many many (seen p) (seen q) grows number_is refl h.2,
+                )
           ];
           opens = λ j key le got.
               let h = was.opens j key (omega (arith, le)) got in
-              let is = same.others (place_of k j) (subst (λ (d : ℕ). place_of k j ≢ d) (sym here) (place_apart k j n (λ e. absurd (omega (arith, e, le))))) in
-              ((h.0.0, is ∙ h.0.1, h.0.2), ap sent_in is ∙ h.1);
+              let apart = subst (λ (d : ℕ). place_of k j ≢ d) (sym here) (place_apart k j n (λ e. absurd (omega (arith, e, le)))) in
+              let many = length (items_for key all) in
+              serves_on (setting_of limits s.given) p q a b (place_of k j) many many (items_for key all) number_is grows (others (place_of k j) apart) (let le : many ≤ many = omega arith in le) h;
         }
 
 module _ {R W T S : Type 0} (step : Keyed W T S → S → T → S → Type 0) (limits : R → Limits) (s : Named R) (o : Keyed W T S) (all : List (ℕ × T)) where
-  pub closing_first : (p q : Pass Element) (a b : Stays T S) (k : RingKeys) → HasKeys step limits s o all p a k → Keeps a b → IsClosing limits s all 0 q b k
-  closing_first p q a b k has keeps =
+  pub closing_first : (p q : Pass Element) (a b : Stays T S) (k : RingKeys) → HasKeys step limits s o all p a k → Knows IsFirst step limits s o q b → number q ≡ number p → Begins (seen p) (seen q) → Keeps a b
+      → IsClosing limits s all 0 q b k
+  closing_first p q a b k has knows same grows keeps =
       record {
         closed = λ j key lt at. absurd (omega (arith, lt));
-        opens = λ j key le at. let h = has.at j key at in (keeps.opens (place_of k j) h.0, keeps.sent (place_of k j) ∙ h.1);
+        opens = λ j key le at. (keys_kept step limits s o all p q a b k has knows same grows keeps).at j key at;
       }
 
   pub all_closed : (n : ℕ) (p : Pass Element) (st : Stays T S) (k : RingKeys) → IsClosing limits s all n p st k → n ≡ length (keys_in k) → Knows IsFirst step limits s o p st → AreClosed step limits s o all p st k
@@ -97,7 +97,7 @@ module _ {R W T S : Type 0} (step : Keyed W T S → S → T → S → Type 0) (l
       }
 
 -- what is so of all is so of each
-each_of : {A : Type 0} (P : A → Type 0) (xs : List A) (i : ℕ) (x : A) → All P xs → slice_get xs i ≡ Some x → P x
+pub each_of : {A : Type 0} (P : A → Type 0) (xs : List A) (i : ℕ) (x : A) → All P xs → slice_get xs i ≡ Some x → P x
 each_of P xs i x all at = subst P (get_or_from_slice_get xs i x x at) (all i x (slice_get_within xs i x at))
 
 module _ {R W T S : Type 0} (begins : W → S → Type 0) (step : W → S → T → S → Type 0) (limits : R → Limits) (s : Named R) (o : Keyed W T S) (all : List (ℕ × T)) where

@@ -1,5 +1,5 @@
 -- What a pass that has seen nothing knows of places where nobody is.
-use Rattle.std.proofs.Common.{◌≡◌, ℕ, zero, suc, ◌+◌, ◌%◌, ◌<◌, inl, inr, Some, List, [], ◌∷◌, length, slice_get, slice_index_or, refl, ap, sym, ◌∙◌, subst, arith, Global}
+use Rattle.std.proofs.Common.{◌≡◌, ℕ, zero, suc, ◌+◌, ◌%◌, ◌<◌, inl, inr, Some, List, [], ◌∷◌, length, replicate, slice_get, slice_index_or, refl, ap, sym, ◌∙◌, subst, arith, Global}
 use Rattle.std.proofs.lemmas.Bool.{cases_eq}
 use Rattle.std.proofs.lemmas.Option.{slice_get_within}
 use Rattle.rtrb.specs.declared.AnyItems.{AnyItems}
@@ -22,8 +22,8 @@ use Rattle.stream_stays.specs.Beginning.{AreNew, IsNewVacant, IsNewPlace as IsFi
 use Rattle.stream_stays.proofs.Fresh.{new_passes_know_of}
 use Rattle.squeue_arrivals.specs.declared.steps.Keyed.{Keyed}
 use Rattle.squeue_arrivals.specs.Keyed.{IsFirst, first_of}
-use Rattle.squeue_arrivals.specs.Seating.{AreNewStays, IsNewPlace, ServesPlaces, one_life}
-use Rattle.squeue_arrivals.proofs.Seated.{lives_long, one_is}
+use Rattle.squeue_arrivals.specs.Seating.{AreNewStays, IsNewPlace, ServesPlaces, looker_life, one_life}
+use Rattle.squeue_arrivals.proofs.Seated.{front_is, lives_long}
 
 -- a fresh pass, by its place
 pub fresh_at : {E : Type 0} (num : E → ℕ) (id : TableId) (n : ℕ) (ps : List (Pass E)) (k : ℕ) (x : Pass E) → AreFresh num id n ps → slice_get ps k ≡ Some x → IsPassOf num id x × (number x ≡ n + k) × (seen x ≡ [])
@@ -36,7 +36,7 @@ module _ {R W T S : Type 0} (step : Keyed W T S → S → T → S → Type 0) (l
   its = setting_of limits s.given
 
   quota_is : slice_index_or s.given.quotas (number p) (0, 0) ≡ one_life
-  quota_is = ap (λ (qs : List (ℕ × ℕ)). slice_index_or qs (number p) (0, 0)) serves.quotas ∙ one_is rings (number p) one_life (0, 0) (omega (arith, number_is, lt))
+  quota_is = ap (λ (qs : List (ℕ × ℕ)). slice_index_or qs (number p) (0, 0)) serves.quotas ∙ front_is rings (number p) one_life (replicate serves.lookers looker_life) (0, 0) (omega (arith, number_is, lt))
 
   -- whichever end of a ring place c may begin with is the other end of this one
   its_ring : (c : ℕ) (place : Place T S) (new : IsNewPlace (first_of o) c place) → IsOfRing IsFirst o c new.producer
@@ -67,7 +67,7 @@ module _ {R W T S : Type 0} (step : Keyed W T S → S → T → S → Type 0) (l
       new =
           let feeds : feed_quota its (number p) ≡ one_life.0 = ap (λ (q : ℕ × ℕ). q.0) quota_is in
           let asks : ask_quota its (number p) ≡ one_life.1 = ap (λ (q : ℕ × ℕ). q.1) quota_is in
-          let many : length s.given.quotas ≡ rings = ap length serves.quotas ∙ lives_long rings in
+          let many = ap length serves.quotas ∙ lives_long rings serves.lookers in
           record {
             pass = is;
             nothing = none;

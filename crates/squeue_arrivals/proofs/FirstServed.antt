@@ -12,9 +12,9 @@ use Rattle.placed_parts.specs.Placing.{limits_of, origin_of}
 use Rattle.squeue_state.specs.Naming.{Named}
 use Rattle.histories.specs.Elements.{number_of}
 use Rattle.squeue_streams.specs.Taking.{most_leaves}
-use Rattle.stream_stays.specs.Places.{CanOpen, place_at, places_of}
-use Rattle.stream_stays.specs.Settling.{sent_in}
+use Rattle.stream_stays.specs.Places.{places_of}
 use Rattle.squeue_arrivals.specs.Keyed.{first_of}
+use Rattle.squeue_arrivals.specs.Keeping.{IsUnused}
 use Rattle.squeue_arrivals.specs.Placed.{keys_in, place_of}
 use Rattle.squeue_arrivals.specs.Seating.{ServesPlaces}
 use Rattle.squeue_arrivals.specs.Tasks.{IsNewRing, MayServe}
@@ -29,8 +29,8 @@ no_key k i key (x ∷ ks) none at = cc none
 module _ {X P W T S A : Type 0} {G : Ghosts X P (Keyed W T S)} (step : Keyed W T S → S → T → S → Type 0) (s : Named (Places X P (Keyed W T S) G)) (rings most k : ℕ)
     (serves : ServesPlaces limits_of s.given rings (length (first_of (origin_of s.given.first)))) (p : Pass Element) (is : IsPassOf number_of s.gate p) (number_is : number p ≡ k) (lt : k < rings)
     (none : seen p ≡ []) (ring : Ring T S A) (new : IsNewRing rings most (first_of (origin_of s.given.first)) k ring) where
-  -- each of its places can be opened, and nothing was sent there
-  free_at : (i : ℕ) → i < most → CanOpen ring.stays (place_of ring.keys i) × (sent_in (place_at ring.stays (place_of ring.keys i)) ≡ [])
+  -- each of its places is unused
+  free_at : (i : ℕ) → i < most → IsUnused ring.stays (place_of ring.keys i)
   free_at i less =
       let here : place_of ring.keys i ≡ k + i * rings = rw (new.keys.is_number, new.keys.is_rings) refl in
       let mine : (k + i * rings) % rings ≡ k = add-mul-mod_self_right k i rings ∙ mod-small in
@@ -39,8 +39,13 @@ module _ {X P W T S A : Type 0} {G : Ghosts X P (Keyed W T S)} (step : Keyed W T
       let at = some_at (places_of ring.stays) (k + i * rings) within in
       let place = new.stays.own (k + i * rings) at.0 at.1 mine in
       let is_at = at.1 ∙ ap (λ x. Some x) place.place_is in
-      subst (λ (c : ℕ). CanOpen ring.stays c × (sent_in (place_at ring.stays c) ≡ [])) (sym here)
-      ((record { producer = place.producer; part = place.part; stream = k + i * rings; leaves = most_leaves }, is_at, omega arith), ap sent_in is_at ∙ place.new.unsent)
+      subst (IsUnused ring.stays) (sym here)
+      (record {
+        vacant = record { producer = place.producer; part = place.part; stream = k + i * rings; leaves = most_leaves };
+        is_vacant = is_at;
+        none = place.new.unsent;
+        leaves = omega arith;
+      })
     where
       mod-small : k % rings ≡ k
       mod-small = ap (λ (n : ℕ). n % rings) (let e : k ≡ 0 * rings + k = omega arith in e) ∙ mod-mul-add 0 rings k lt

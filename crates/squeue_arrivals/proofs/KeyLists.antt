@@ -1,5 +1,5 @@
 -- Items by key, and keys by number.
-use Rattle.std.proofs.Common.{◌≡◌, ◌≢◌, ℕ, zero, suc, ◌+◌, ◌<◌, ◌==◌, Bool, true, false, None, Some, List, [], ◌∷◌, ◌++◌, length, map, slice_get, refl, ap, sym, ◌∙◌, subst, arith, append-nil}
+use Rattle.std.proofs.Common.{◌≡◌, ◌≢◌, ℕ, zero, suc, ◌+◌, ◌<◌, ◌≤◌, ◌==◌, Bool, true, false, None, Some, List, [], ◌∷◌, ◌++◌, length, map, slice_get, refl, ap, sym, ◌∙◌, subst, arith, append-nil}
 use Rattle.std.specs.Prelude.{Contains, cond, filter, if◌then◌else◌, nat_eq, nat_lt, not, position}
 use Rattle.std.specs.List.{IsDistinct, AllByRecursion, list_any, position_or_len}
 use Rattle.std.specs.Cmp.{nat_eq_equiv}
@@ -31,6 +31,15 @@ module _ {T : Type 0} where
       no : (b : Bool) → (j == k) ≡ b → b ≡ false
       no true is = absurd (other (eqb-true j k is))
       no false is = refl
+
+  -- a key has no more items than there are
+  pub few_items : (k : ℕ) (all : List (ℕ × T)) → length (items_for k all) ≤ length all
+  few_items k [] = omega arith
+  few_items k (e ∷ all) = by (few_items k all) (e.0 == k) refl
+    where
+      by : length (items_for k all) ≤ length all → (b : Bool) → (e.0 == k) ≡ b → length (items_for k (e ∷ all)) ≤ length (e ∷ all)
+      by le true is = rw is (omega (arith, le))
+      by le false is = rw is (omega (arith, le))
 
 -- a test finds no key but those that are there
 pub any_false : (ks : List ℕ) (k : ℕ) → (Contains ks k → ⊥) → list_any (nat_eq k) ks ≡ false

@@ -6,19 +6,21 @@ use Rattle.std.proofs.Math.Nat.{le_of_mul-le-mul_right, mul-le-mul_right}
 use Rattle.std.proofs.lemmas.Bool.{cases_eq}
 use Rattle.std.proofs.lemmas.Option.{get_or_from_slice_get, slice_get_within}
 use Rattle.std.proofs.lemmas.List.Elements.{Contains-append_left}
+use Rattle.turn_gate.specs.History.{Begins}
+use Rattle.turn_gate.specs.Passes.{number, seen}
 use Rattle.turn_gate.specs.declared.pass.Pass.{Pass}
 use Rattle.perimeter_core.specs.History.{Element, Limits}
-use Rattle.squeue_state.specs.Naming.{Named}
+use Rattle.squeue_state.specs.Naming.{Named, setting_of}
 use Rattle.stream_stays.specs.declared.place.Stays.{Stays}
-use Rattle.stream_stays.specs.Places.{CanOpen, Knows, place_at}
-use Rattle.stream_stays.specs.Settling.{sent_in}
-use Rattle.squeue_arrivals.specs.Arriving.{items_for, most_of_key}
+use Rattle.stream_stays.specs.Places.{Knows}
+use Rattle.squeue_arrivals.specs.Arriving.{items_for}
 use Rattle.squeue_arrivals.specs.Keyed.{IsFirst}
-use Rattle.squeue_arrivals.specs.Keeping.{AllCame, AllCameBut, HasAll, HasKeys, HasSeated, IsTable, IsWhole, Keeps, KeepsBut}
+use Rattle.squeue_arrivals.specs.Keeping.{AllCame, AllCameBut, HasAll, HasKeys, HasSeated, IsTable, IsUnused, Keeps, KeepsBut, Serves}
 use Rattle.squeue_arrivals.specs.Placed.{SameRing, keys_in, most_in, place_of}
 use Rattle.squeue_arrivals.specs.declared.ring_keys.RingKeys.{RingKeys}
 use Rattle.squeue_arrivals.specs.declared.steps.Keyed.{Keyed}
 use Rattle.squeue_arrivals.proofs.KeyLists.{items_more, items_other, one_number}
+use Rattle.squeue_arrivals.proofs.PlacesKept.{serves_on, unused_on}
 use Rattle.squeue_arrivals.proofs.Seated.{get_more}
 
 -- places of two numbers are two
@@ -86,91 +88,57 @@ module _ {T : Type 0} (all : List (ℕ × T)) where
     | inr apart ↦ subst (λ (xs : List T). xs ≢ []) (sym (items_other other key x all apart)) (came i other at (λ e. apart (sym e)))
   ]
 
-  came_all : (k : RingKeys) (key : ℕ) → AllCameBut all k key → items_for key all ≢ [] → AllCame all k
-  came_all k key came some i other at = elim (cases_eq key other) [
-    | inl same ↦ subst (λ (n : ℕ). items_for n all ≢ []) same some
-    | inr apart ↦ came i other at (λ e. apart (sym e))
-  ]
-
   pub came_but : (k : RingKeys) (key : ℕ) → AllCame all k → AllCameBut all k key
   came_but k key came = λ i other at apart. came i other at
 
 module _ {R W T S : Type 0} (step : Keyed W T S → S → T → S → Type 0) (limits : R → Limits) (s : Named R) (o : Keyed W T S) (all : List (ℕ × T)) where
   -- where every place keeps what it has, every key has its place
-  pub keys_kept : (p q : Pass Element) (a b : Stays T S) (k : RingKeys) → HasKeys step limits s o all p a k → Knows IsFirst step limits s o q b → Keeps a b → HasKeys step limits s o all q b k
-  keys_kept p q a b k has knows keeps =
+  pub keys_kept : (p q : Pass Element) (a b : Stays T S) (k : RingKeys) → HasKeys step limits s o all p a k → Knows IsFirst step limits s o q b → number q ≡ number p → Begins (seen p) (seen q) → Keeps a b
+      → HasKeys step limits s o all q b k
+  keys_kept p q a b k has knows same grows keeps =
       record {
         knows = knows;
         table = has.table;
-        at = λ i key is. let h = has.at i key is in (keeps.opens (place_of k i) h.0, keeps.sent (place_of k i) ∙ h.1);
-        free = λ i le lt. let h = has.free i le lt in (keeps.vacant (place_of k i) h.0, keeps.sent (place_of k i) ∙ h.1);
+        at = λ i key is. let n = length (items_for key all) in serves_on (setting_of limits s.given) p q a b (place_of k i) n n (items_for key all) same grows (keeps (place_of k i)) (let le : n ≤ n = omega arith in le) (has.at i key is);
+        free = λ i le lt. unused_on a b (place_of k i) (keeps (place_of k i)) (has.free i le lt);
       }
 
   module _ (p q : Pass Element) (a b : Stays T S) (k : RingKeys) (i key : ℕ) (has : HasKeys step limits s o all p a k) (is_at : slice_get (keys_in k) i ≡ Some key)
-      (knows : Knows IsFirst step limits s o q b) (is_open : IsWhole b (place_of k i)) (keeps : KeepsBut (place_of k i) a b) where
+      (knows : Knows IsFirst step limits s o q b) (same : number q ≡ number p) (grows : Begins (seen p) (seen q)) (keeps : KeepsBut (place_of k i) a b) where
     -- an item more of a key
-    pub keys_more : (x : T) → sent_in (place_at b (place_of k i)) ≡ sent_in (place_at a (place_of k i)) ++ x ∷ [] → HasKeys step limits s o (all ++ (key, x) ∷ []) q b k
-    keys_more x sent =
+    pub keys_more : (x : T) → Serves (setting_of limits s.given) q b (place_of k i) (items_for key all ++ x ∷ []) (length (items_for key all) + 1) → HasKeys step limits s o (all ++ (key, x) ∷ []) q b k
+    keys_more x brought =
         record {
           knows = knows;
           table = table_more all k i key x has.table is_at;
           at = λ j other at. elim (cases_eq i j) [
-            | inl same ↦
-                let key_is : key ≡ other = cc (sym is_at ∙ (ap (slice_get (keys_in k)) same ∙ at)) in
-                let now : sent_in (place_at b (place_of k i)) ≡ items_for key (all ++ (key, x) ∷ []) =
-                sent ∙ (ap (λ (l : List T). l ++ x ∷ []) (has.at i key is_at).1 ∙ sym (items_more key x all)) in
-                subst (λ (n : ℕ). IsWhole b (place_of k n) × (sent_in (place_at b (place_of k n)) ≡ items_for other (all ++ (key, x) ∷ []))) same
-                (is_open, now ∙ ap (λ (n : ℕ). items_for n (all ++ (key, x) ∷ [])) key_is)
+            | inl here ↦
+                let key_is : key ≡ other = cc (sym is_at ∙ (ap (slice_get (keys_in k)) here ∙ at)) in
+                let items : items_for key all ++ x ∷ [] ≡ items_for other (all ++ (key, x) ∷ []) = sym (items_more key x all) ∙ ap (λ (n : ℕ). items_for n (all ++ (key, x) ∷ [])) key_is in
+                let many : length (items_for key all) + 1 ≡ length (items_for other (all ++ (key, x) ∷ [])) = sym (length-append (items_for key all) (x ∷ [])) ∙ ap length items in
+                let now = subst (λ (xs : List T). Serves (setting_of limits s.given) q b (place_of k i) xs (length (items_for key all) + 1)) items brought in
+                let counted = subst (λ (n : ℕ). Serves (setting_of limits s.given) q b (place_of k i) (items_for other (all ++ (key, x) ∷ [])) n) many now in
+                subst (λ (n : ℕ). Serves (setting_of limits s.given) q b (place_of k n) (items_for other (all ++ (key, x) ∷ [])) (length (items_for other (all ++ (key, x) ∷ [])))) here counted
             | inr apart ↦
                 let there = place_apart k j i (λ e. apart (sym e)) in
-                let h = has.at j other at in
                 let others : key ≢ other = λ e. apart (one_number (keys_in k) i j other has.table.distinct (is_at ∙ ap (λ (n : ℕ). Some n) e) at) in
-                (keeps.opens (place_of k j) there h.0, keeps.sent (place_of k j) there ∙ (h.1 ∙ sym (items_other other key x all others)))
+                let n = length (items_for other all) in
+                let still = serves_on (setting_of limits s.given) p q a b (place_of k j) n n (items_for other all) same grows (keeps (place_of k j) there) (let le : n ≤ n = omega arith in le) (has.at j other at) in
+                subst (λ (xs : List T). Serves (setting_of limits s.given) q b (place_of k j) xs (length xs)) (sym (items_other other key x all others)) still
           ];
           free = λ j le lt.
               let within = slice_get_within (keys_in k) i key is_at in
               let there = place_apart k j i (λ e. absurd (omega (arith, e, le, within))) in
-              let h = has.free j le lt in
-              (keeps.vacant (place_of k j) there h.0, keeps.sent (place_of k j) there ∙ h.1);
+              unused_on a b (place_of k j) (keeps (place_of k j) there) (has.free j le lt);
         }
 
     pub all_came_more : (x : T) → AllCameBut all k key → AllCame (all ++ (key, x) ∷ []) k
     all_came_more x came = came_more all k key x came
 
-    -- nothing more of it
-    pub keys_same : sent_in (place_at b (place_of k i)) ≡ sent_in (place_at a (place_of k i)) → HasKeys step limits s o all q b k
-    keys_same sent =
-        record {
-          knows = knows;
-          table = has.table;
-          at = λ j other at. elim (cases_eq i j) [
-            | inl same ↦
-                let h = has.at j other at in
-                let here = ap (place_of k) same in
-                (subst (IsWhole b) here is_open, subst (λ (c : ℕ). sent_in (place_at b c) ≡ sent_in (place_at a c)) here sent ∙ h.1)
-            | inr apart ↦
-                let there = place_apart k j i (λ e. apart (sym e)) in
-                let h = has.at j other at in
-                (keeps.opens (place_of k j) there h.0, keeps.sent (place_of k j) there ∙ h.1)
-          ];
-          free = λ j le lt.
-              let within = slice_get_within (keys_in k) i key is_at in
-              let there = place_apart k j i (λ e. absurd (omega (arith, e, le, within))) in
-              let h = has.free j le lt in
-              (keeps.vacant (place_of k j) there h.0, keeps.sent (place_of k j) there ∙ h.1);
-        }
-
-    -- a place that is full has its key's items
-    pub full_key : sent_in (place_at b (place_of k i)) ≡ sent_in (place_at a (place_of k i)) → most_of_key ≤ length (sent_in (place_at b (place_of k i))) → AllCameBut all k key
-        → (most_of_key ≤ length (items_for key all)) × AllCame all k
-    full_key sent full came =
-        let many : most_of_key ≤ length (items_for key all) = omega (arith, full, ap length (sent ∙ (has.at i key is_at).1)) in
-        (many, came_all all k key came (λ none. absurd (omega (arith, many, ap length none))))
-
   -- a key more takes the next place
   module _ (p q : Pass Element) (a b : Stays T S) (k next : RingKeys) (key : ℕ) (has : HasKeys step limits s o all p a k) (new : Contains (keys_in k) key → ⊥)
-      (left : length (keys_in k) < most_in k) (knows : Knows IsFirst step limits s o q b) (is_open : IsWhole b (place_of k (length (keys_in k))))
-      (keeps : KeepsBut (place_of k (length (keys_in k))) a b) (sent : sent_in (place_at b (place_of k (length (keys_in k)))) ≡ sent_in (place_at a (place_of k (length (keys_in k)))))
+      (left : length (keys_in k) < most_in k) (knows : Knows IsFirst step limits s o q b) (same : number q ≡ number p) (grows : Begins (seen p) (seen q))
+      (is_open : Serves (setting_of limits s.given) q b (place_of k (length (keys_in k))) [] 0) (keeps : KeepsBut (place_of k (length (keys_in k))) a b)
       (more : keys_in next ≡ keys_in k ++ key ∷ []) (ring : SameRing k next) (room : spare k.set ≤ spare next.set + 1) (distinct : IsUnique nat_eq next.set) where
     many : length (keys_in next) ≡ length (keys_in k) + 1
     many = ap length more ∙ length-append (keys_in k) (key ∷ [])
@@ -195,21 +163,19 @@ module _ {R W T S : Type 0} (step : Keyed W T S → S → T → S → Type 0) (l
             | inl there ↦
                 let within = slice_get_within (keys_in k) j other there in
                 let apart = place_apart k j (length (keys_in k)) (λ e. absurd (omega (arith, e, within))) in
-                let h = has.at j other there in
-                subst (λ (c : ℕ). IsWhole b c × (sent_in (place_at b c) ≡ items_for other all)) (sym (place_same k next j ring))
-                (keeps.opens (place_of k j) apart h.0, keeps.sent (place_of k j) apart ∙ h.1)
+                let n = length (items_for other all) in
+                subst (λ (c : ℕ). Serves (setting_of limits s.given) q b c (items_for other all) n) (sym (place_same k next j ring))
+                (serves_on (setting_of limits s.given) p q a b (place_of k j) n n (items_for other all) same grows (keeps (place_of k j) apart) (let le : n ≤ n = omega arith in le) (has.at j other there))
             | inr last ↦
                 let here : place_of k (length (keys_in k)) ≡ place_of next j = ap (place_of k) (sym last.0) ∙ sym (place_same k next j ring) in
-                let le : length (keys_in k) ≤ length (keys_in k) = omega arith in
-                let was = (has.free (length (keys_in k)) le left).1 in
-                subst (λ (c : ℕ). IsWhole b c × (sent_in (place_at b c) ≡ items_for other all)) here
-                (is_open, sent ∙ (was ∙ (sym none ∙ ap (λ (n : ℕ). items_for n all) last.1)))
+                let items : [] ≡ items_for other all = sym none ∙ ap (λ (n : ℕ). items_for n all) last.1 in
+                subst (λ (c : ℕ). Serves (setting_of limits s.given) q b c (items_for other all) (length (items_for other all))) here
+                (subst (λ (xs : List T). Serves (setting_of limits s.given) q b (place_of k (length (keys_in k))) xs (length xs)) items is_open)
           ];
           free = λ j le lt.
               let apart = place_apart k j (length (keys_in k)) (λ e. absurd (omega (arith, e, le, many))) in
-              let h = has.free j (omega (arith, le, many)) (omega (arith, lt, ring.most)) in
-              subst (λ (c : ℕ). CanOpen b c × (sent_in (place_at b c) ≡ [])) (sym (place_same k next j ring))
-              (keeps.vacant (place_of k j) apart h.0, keeps.sent (place_of k j) apart ∙ h.1);
+              subst (IsUnused b) (sym (place_same k next j ring))
+              (unused_on a b (place_of k j) (keeps (place_of k j) apart) (has.free j (omega (arith, le, many)) (omega (arith, lt, ring.most))));
         }
 
     pub came_one : AllCame all k → AllCameBut all next key
@@ -221,15 +187,13 @@ module _ {R W T S : Type 0} (step : Keyed W T S → S → T → S → Type 0) (l
 -- a key takes the next place, which is number c
 module _ {R W T S : Type 0} (step : Keyed W T S → S → T → S → Type 0) (limits : R → Limits) (s : Named R) (o : Keyed W T S) (all : List (ℕ × T)) where
   pub seated_one : (p q : Pass Element) (a b : Stays T S) (k next : RingKeys) (key c : ℕ) → HasAll step limits s o all p a k → (Contains (keys_in k) key → ⊥) → length (keys_in k) < most_in k
-      → c ≡ place_of k (length (keys_in k)) → Knows IsFirst step limits s o q b → IsWhole b c → KeepsBut c a b → sent_in (place_at b c) ≡ sent_in (place_at a c) → keys_in next ≡ keys_in k ++ key ∷ [] → SameRing k next
-      → spare k.set ≤ spare next.set + 1 → IsUnique nat_eq next.set → HasSeated step limits s o all key q b next (Some c)
-  seated_one p q a b k next key c has new left c_is knows is_open keeps sent more ring room distinct =
-      let n = length (keys_in k) in
-      let open_there = subst (IsWhole b) c_is is_open in
+      → c ≡ place_of k (length (keys_in k)) → Knows IsFirst step limits s o q b → number q ≡ number p → Begins (seen p) (seen q) → Serves (setting_of limits s.given) q b c [] 0 → KeepsBut c a b
+      → keys_in next ≡ keys_in k ++ key ∷ [] → SameRing k next → spare k.set ≤ spare next.set + 1 → IsUnique nat_eq next.set → HasSeated step limits s o all key q b next (Some c)
+  seated_one p q a b k next key c has new left c_is knows same grows is_open keeps more ring room distinct =
+      let open_there = subst (λ (d : ℕ). Serves (setting_of limits s.given) q b d [] 0) c_is is_open in
       let keeps_there = subst (λ (d : ℕ). KeepsBut d a b) c_is keeps in
-      let sent_there = subst (λ (d : ℕ). sent_in (place_at b d) ≡ sent_in (place_at a d)) c_is sent in
       record {
-        keys = keys_one step limits s o all p q a b k next key has.0 new left knows open_there keeps_there sent_there more ring room distinct;
-        came = came_one step limits s o all p q a b k next key has.0 new left knows open_there keeps_there sent_there more ring room distinct has.1;
+        keys = keys_one step limits s o all p q a b k next key has.0 new left knows same grows open_there keeps_there more ring room distinct;
+        came = came_one step limits s o all p q a b k next key has.0 new left knows same grows open_there keeps_there more ring room distinct has.1;
         none = λ none. cc none;
       }

@@ -1,9 +1,9 @@
 pub mod KeyLists
 pub mod Fronts
 pub mod Cases
+pub mod StaysKept
 pub mod PlacesKept
 pub mod KeysKept
-pub mod StaysKept
 pub mod Closing
 pub mod Given
 pub mod Runs
@@ -13,7 +13,9 @@ pub mod Seated
 pub mod Owned
 pub mod FirstKnown
 pub mod FirstServed
+pub mod Looking
 pub mod RingTasks
 pub mod RingJobs
 pub mod RingRun
 pub mod RingsDealt
+pub mod WatchedGroups

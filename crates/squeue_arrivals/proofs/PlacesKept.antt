@@ -1,91 +1,143 @@
 -- What stays at places.
-use Rattle.std.proofs.Common.{◌≡◌, ℕ, ◌≤◌, Option, None, Some, Result, Ok, Err, List, [], ◌∷◌, ◌++◌, length, refl, ap, sym, ◌∙◌, subst, arith}
-use Rattle.std.specs.Prelude.{MatchResult, slice_get}
+use Rattle.std.proofs.Common.{◌≡◌, ℕ, ◌+◌, ◌≤◌, Option, None, Some, List, [], length, refl, ap, sym, ◌∙◌, subst, arith}
+use Rattle.std.specs.Prelude.{slice_get}
+use Rattle.rtrb.specs.Ring.{sent}
+use Rattle.turn_gate.specs.History.{Begins}
+use Rattle.turn_gate.specs.Passes.{number, seen}
+use Rattle.turn_gate.specs.declared.pass.Pass.{Pass}
+use Rattle.perimeter_core.specs.declared.marks.SynchAct.TheVariants as Done
+use Rattle.perimeter_core.specs.Deeds.{acts, fed}
+use Rattle.perimeter_core.specs.History.{Element, Limits, Setting}
+use Rattle.squeue_state.specs.Naming.{Named, setting_of}
+use Rattle.conn_migrate.specs.Moving.{Moved}
+use Rattle.squeue_streams.specs.Taking.{most_leaves}
 use Rattle.stream_stays.specs.declared.place.Place.{Place}
 use Rattle.stream_stays.specs.declared.place.Place.TheVariants.{Open, Out, Vacant as Vacant'}
 use Rattle.stream_stays.specs.declared.place.Stays.{Stays}
 use Rattle.stream_stays.specs.declared.stay.Stay.{Stay}
 use Rattle.stream_stays.specs.declared.stay.Vacant.{Vacant}
-use Rattle.stream_stays.specs.Staying.{SameStay, before_of, pushed_of}
-use Rattle.squeue_arrivals.specs.Arriving.{most_of_key}
-use Rattle.stream_stays.specs.Places.{IsOpen, SameElsewhere, place_at, places_of}
-use Rattle.stream_stays.specs.Settling.{SameAt, SamePlaces, sent_in}
-use Rattle.squeue_arrivals.specs.Keeping.{IsWhole, Keeps, KeepsBut}
+use Rattle.stream_stays.specs.Staying.{IsBegun, SameStay, before_of, leaves_of, pushed_of, sent_of}
+use Rattle.stream_stays.specs.Places.{SameElsewhere, place_at, places_of}
+use Rattle.stream_stays.specs.Settling.{SameAt, SameSent, sent_in}
+use Rattle.stream_stays.proofs.Settled.{at_on, places_self}
+use Rattle.squeue_arrivals.specs.Keeping.{IsUnused, Keeps, KeepsBut, Serves}
+use Rattle.squeue_arrivals.specs.Stayed.{WasFed}
+use Rattle.squeue_arrivals.proofs.StaysKept.{begins_itself, fed_more, fed_on}
 
 module _ {T S : Type 0} where
-  whole_at_both : (was is : Option (Place T S)) (stay : Stay T) → was ≡ Some (Open stay) → before_of stay ≡ [] → SameAt was is
-      → (next : Stay T) × (is ≡ Some (Open next)) × (before_of next ≡ [])
-  whole_at_both was is stay e none same = by is (subst (λ (o : Option (Place T S)). SameAt o is) e same)
+  -- the same stay goes on there, or the same part lies there
+  pub open_at_both : (was is : Option (Place T S)) (stay : Stay T) → was ≡ Some (Open stay) → SameAt was is → (next : Stay T) × (is ≡ Some (Open next)) × SameSent stay next
+  open_at_both was is stay e same = by is (subst (λ (o : Option (Place T S)). SameAt o is) e same)
     where
-      by : (o : Option (Place T S)) → SameAt (Some (Open stay)) o → (next : Stay T) × (o ≡ Some (Open next)) × (before_of next ≡ [])
+      by : (o : Option (Place T S)) → SameAt (Some (Open stay)) o → (next : Stay T) × (o ≡ Some (Open next)) × SameSent stay next
       by None x = absurd x
       by (Some (Vacant' v)) x = absurd x
-      by (Some (Open next)) x = (next, refl, x.stay.before ∙ none)
+      by (Some (Open next)) x = (next, refl, x)
       by (Some Out) x = absurd x
+
+  vacant_at_both : (was is : Option (Place T S)) (v : Vacant T S) → was ≡ Some (Vacant' v) → SameAt was is → is ≡ Some (Vacant' v)
+  vacant_at_both was is v e same = subst (λ (o : Option (Place T S)). SameAt o is) e same
 
   abbrev with_stay : Stay T → Option (Place T S)
   with_stay stay = Some (Open stay)
 
-  -- one stay is there
+  abbrev with_vacant : Vacant T S → Option (Place T S)
+  with_vacant v = Some (Vacant' v)
+
+  -- one stay is there, or one part lies there
   pub same_stay : (a : Stays T S) (c : ℕ) (x y : Stay T) → place_at a c ≡ Some (Open x) → place_at a c ≡ Some (Open y) → x ≡ y
   same_stay a c x y one other = go x y (sym one ∙ other)
     where
       go : (x y : Stay T) → with_stay x ≡ with_stay y → x ≡ y
       go x y e = cc e
 
-  -- the same stay goes on there
-  pub whole_on : (a : Stays T S) (c : ℕ) (stay next : Stay T) → IsWhole a c → place_at a c ≡ Some (Open stay) → SameStay stay next → before_of next ≡ []
-  whole_on a c stay next whole at same =
-      same.before ∙ subst (λ (s : Stay T). before_of s ≡ []) (same_stay a c whole.0 stay whole.1 at) whole.2
-
-  vacant_at_both : (was is : Option (Place T S)) (v : Vacant T S) → was ≡ Some (Vacant' v) → SameAt was is → is ≡ Some (Vacant' v)
-  vacant_at_both was is v e same = subst (λ (o : Option (Place T S)). SameAt o is) e same
-
-  -- places that are the same, or were settled
-  pub keeps_same : (a b : Stays T S) → places_of b ≡ places_of a → Keeps a b
-  keeps_same a b same =
-      record {
-        opens = λ d is. (is.0, at d ∙ is.1, is.2);
-        vacant = λ d is. (is.0, at d ∙ is.1, is.2);
-        sent = λ d. ap sent_in (at d);
-      }
+  pub same_vacant : (a : Stays T S) (c : ℕ) (x y : Vacant T S) → place_at a c ≡ Some (Vacant' x) → place_at a c ≡ Some (Vacant' y) → x ≡ y
+  same_vacant a c x y one other = go x y (sym one ∙ other)
     where
-      at : (d : ℕ) → place_at b d ≡ place_at a d
-      at d = ap (λ (l : List (Place T S)). slice_get l d) same
+      go : (x y : Vacant T S) → with_vacant x ≡ with_vacant y → x ≡ y
+      go x y e = cc e
 
-  pub keeps_settled : (a b : Stays T S) → SamePlaces a b → ((d : ℕ) → sent_in (place_at b d) ≡ sent_in (place_at a d)) → Keeps a b
-  keeps_settled a b same sent =
-      record {
-        opens = λ d is. whole_at_both (place_at a d) (place_at b d) is.0 is.1 is.2 (same.each d);
-        vacant = λ d is. (is.0, vacant_at_both (place_at a d) (place_at b d) is.0 is.1 (same.each d), is.2);
-        sent = sent;
-      }
+  -- places that are the same
+  pub keeps_same : (a b : Stays T S) → places_of b ≡ places_of a → Keeps a b
+  keeps_same a b same d = subst (λ (l : List (Place T S)). SameAt (place_at a d) (slice_get l d)) (sym same) ((places_self a).each d)
+
+  pub keeps_self : (a : Stays T S) → Keeps a a
+  keeps_self a d = (places_self a).each d
 
   pub keeps_on : (a b c : Stays T S) → Keeps a b → Keeps b c → Keeps a c
-  keeps_on a b c x y = record { opens = λ d is. y.opens d (x.opens d is); vacant = λ d is. y.vacant d (x.vacant d is); sent = λ d. y.sent d ∙ x.sent d }
+  keeps_on a b c x y d = at_on (place_at a d) (place_at b d) (place_at c d) (x d) (y d)
 
   -- all but one place
   pub but_elsewhere : (c : ℕ) (a b : Stays T S) → SameElsewhere c a b → KeepsBut c a b
-  but_elsewhere c a b same =
-      record {
-        opens = λ d n is. (is.0, same.others d n ∙ is.1, is.2);
-        vacant = λ d n is. (is.0, same.others d n ∙ is.1, is.2);
-        sent = λ d n. ap sent_in (same.others d n);
-      }
+  but_elsewhere c a b same d apart = subst (SameAt (place_at a d)) (sym (same.others d apart)) ((places_self a).each d)
 
   pub but_of : (c : ℕ) (a b : Stays T S) → Keeps a b → KeepsBut c a b
-  but_of c a b x = record { opens = λ d n. x.opens d; vacant = λ d n. x.vacant d; sent = λ d n. x.sent d }
+  but_of c a b x d apart = x d
 
   pub but_on : (e : ℕ) (a b c : Stays T S) → KeepsBut e a b → KeepsBut e b c → KeepsBut e a c
-  but_on e a b c x y = record { opens = λ d n is. y.opens d n (x.opens d n is); vacant = λ d n is. y.vacant d n (x.vacant d n is); sent = λ d n. y.sent d n ∙ x.sent d n }
+  but_on e a b c x y d apart = at_on (place_at a d) (place_at b d) (place_at c d) (x d apart) (y d apart)
 
-  -- a place to which so much was pushed that no more can be
-  pub full_place : (st : Stays T S) (c n : ℕ) → IsOpen st c → ((stay : Stay T) → place_at st c ≡ Some (Open stay) → n ≡ pushed_of stay) → n ≡ most_of_key → most_of_key ≤ length (sent_in (place_at st c))
-  full_place st c n is pushed full = omega (arith, ap (λ p. length (sent_in p)) is.1, pushed is.0 is.1, full, is.0.count)
+  -- a place that is unused still is
+  pub unused_on : (a b : Stays T S) (c : ℕ) → SameAt (place_at a c) (place_at b c) → IsUnused a c → IsUnused b c
+  unused_on a b c same is = record { vacant = is.vacant; is_vacant = vacant_at_both (place_at a c) (place_at b c) is.vacant is.is_vacant same; none = is.none; leaves = is.leaves }
 
--- an item was brought, where it was from a place at which the same was sent
-pub brought_from : {T : Type 0} (r : Result (Unit {0}) T) (item back : T) (old mid now : List T) (n : ℕ) → back ≡ item → mid ≡ old
-    → MatchResult r (λ _. now ≡ mid ++ back ∷ []) (λ x. (x ≡ back) × (now ≡ mid) × (n ≤ length now))
-    → MatchResult r (λ _. now ≡ old ++ item ∷ []) (λ x. (x ≡ item) × (now ≡ old) × (n ≤ length now))
-brought_from {T} (Ok u) item back old mid now n same kept brought = brought ∙ (ap (λ (l : List T). l ++ back ∷ []) kept ∙ ap (λ (x : T). old ++ x ∷ []) same)
-brought_from {T} (Err x) item back old mid now n same kept brought = (brought.0 ∙ same, brought.1 ∙ kept, brought.2)
+  pub none_sent : (a : Stays T S) (c : ℕ) → IsUnused a c → sent_in (place_at a c) ≡ []
+  none_sent a c is = ap sent_in is.is_vacant ∙ is.none
+
+  module _ (at : Setting) where
+    -- where its items were sent
+    pub sent_there : (p : Pass Element) (a : Stays T S) (c n : ℕ) (items : List T) → Serves at p a c items n → sent_in (place_at a c) ≡ items
+    sent_there p a c n items has = ap sent_in has.is_open ∙ has.its_items
+
+    -- a part still serves, when its pass has seen more
+    pub serves_on : (p q : Pass Element) (a b : Stays T S) (c n m : ℕ) (items : List T) → number q ≡ number p → Begins (seen p) (seen q) → SameAt (place_at a c) (place_at b c) → n ≤ m
+        → Serves at p a c items n → Serves at q b c items m
+    serves_on p q a b c n m items same grows kept le has =
+        let o = open_at_both (place_at a c) (place_at b c) has.stay has.is_open kept in
+        record {
+          stay = o.0;
+          is_open = o.1;
+          its_items = o.2.sent ∙ has.its_items;
+          before = fed_on at (number p) (number q) c (length (before_of has.stay)) (length (before_of o.0)) (seen p) (seen q) grows same (ap length o.2.stay.before) has.before;
+          leaves = omega (arith, has.leaves, o.2.stay.leaves, le);
+        }
+
+    -- one item more was pushed there, or none
+    pub serves_next : (p : Pass Element) (a b : Stays T S) (c n : ℕ) (items now : List T) (stay next : Stay T) → Serves at p a c items n → place_at a c ≡ Some (Open stay) → place_at b c ≡ Some (Open next)
+        → SameStay stay next → (sent_of stay ≡ items → sent_of next ≡ now) → Serves at p b c now n
+    serves_next p a b c n items now stay next has was is same sent =
+        let one : has.stay ≡ stay = same_stay a c has.stay stay has.is_open was in
+        let before : before_of next ≡ before_of has.stay = same.before ∙ ap before_of (sym one) in
+        record {
+          stay = next;
+          is_open = is;
+          its_items = sent (ap sent_of (sym one) ∙ has.its_items);
+          before = fed_on at (number p) (number p) c (length (before_of has.stay)) (length (before_of next)) (seen p) (seen p) (begins_itself (seen p)) refl (ap length before) has.before;
+          leaves = omega (arith, has.leaves, same.leaves, ap leaves_of one);
+        }
+
+    -- a part that lay there was put in
+    pub serves_begun : (p : Pass Element) (b : Stays T S) (c n : ℕ) (items : List T) (u v : Vacant T S) (stay : Stay T) → u ≡ v → place_at b c ≡ Some (Open stay) → IsBegun v stay → sent u.producer ≡ items
+        → most_leaves ≤ u.leaves + n → WasFed at (number p) c (length items) (seen p) → Serves at p b c items n
+    serves_begun p b c n items u v stay one is begun lay leaves fed_all =
+        let its_items : sent v.producer ≡ items = subst (λ (x : Vacant T S). sent x.producer ≡ items) one lay in
+        let left : most_leaves ≤ v.leaves + n = subst (λ (x : Vacant T S). most_leaves ≤ x.leaves + n) one leaves in
+        let before : before_of stay ≡ items = begun.before ∙ its_items in
+        record {
+          stay = stay;
+          is_open = is;
+          its_items = ap sent begun.ring ∙ its_items;
+          before = subst (λ (l : List T). WasFed at (number p) c (length l) (seen p)) (sym before) fed_all;
+          leaves = omega (arith, left, begun.leaves);
+        }
+
+module _ {R T S : Type 0} (limits : R → Limits) (s : Named R) where
+  -- a part was taken out: it had a feed for each of its items
+  pub fed_all : (p q : Pass Element) (a : Stays T S) (c n : ℕ) (items : List T) (stay : Stay T) → Serves (setting_of limits s.given) p a c items n → place_at a c ≡ Some (Open stay)
+      → Moved limits s (Done.Out c) [] p q → fed (acts (setting_of limits s.given) (seen q) c) ≡ pushed_of stay → number q ≡ number p
+      → WasFed (setting_of limits s.given) (number q) c (length items) (seen q)
+  fed_all p q a c n items stay has at moved feeds same =
+      let one : has.stay ≡ stay = same_stay a c has.stay stay has.is_open at in
+      let sums : length items ≡ length (before_of has.stay) + pushed_of stay =
+      omega (arith, has.stay.count, ap length has.its_items, ap pushed_of one) in
+      fed_more limits s c (length (before_of has.stay)) (pushed_of stay) (length items) p q has.before moved feeds sums same

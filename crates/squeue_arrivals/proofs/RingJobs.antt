@@ -24,13 +24,15 @@ use Rattle.squeue_arrivals.specs.declared.served.ServedSource.{ServedSource}
 use Rattle.squeue_arrivals.specs.Seating.{ServesPlaces}
 use Rattle.squeue_arrivals.proofs.FirstKnown.{fresh_at}
 use Rattle.squeue_arrivals.proofs.FirstServed.{may_serve}
+use Rattle.squeue_arrivals.proofs.Looking.{may_look}
+use Rattle.squeue_arrivals.specs.declared.watching.Watched.{Watched}
 use Rattle.squeue_arrivals.specs.declared.ring.RingTask.{RingTask}
 use Rattle.squeue_arrivals.specs.declared.ring.RingTask.TheVariants as Task'
 use Rattle.squeue_arrivals.specs.Tasks.{AreNewTasks, EndedFrom, HasDone, IsNewTask, IsReady, KnowsPass, MayRun, Ran, ReadyFor, pass_in}
 
-pub task_got : {T S A : Type 0} (jobs : List (Job (RingTask T S A))) (k : ℕ) (j : Job (RingTask T S A)) → slice_get jobs k ≡ Some j → slice_get (tasks_in jobs) k ≡ Some j.task
+pub task_got : {T S A Z : Type 0} (jobs : List (Job (RingTask T S A Z))) (k : ℕ) (j : Job (RingTask T S A Z)) → slice_get jobs k ≡ Some j → slice_get (tasks_in jobs) k ≡ Some j.task
 task_got [] k j is = cc is
-task_got {T = T} {S = S} {A = A} (o ∷ jobs) zero j is = let same : o ≡ j = cc is in ap (λ (j : Job (RingTask T S A)). Some j.task) same
+task_got {T = T} {S = S} {A = A} {Z = Z} (o ∷ jobs) zero j is = let same : o ≡ j = cc is in ap (λ (j : Job (RingTask T S A Z)). Some j.task) same
 task_got (o ∷ jobs) (suc k) j is = task_got jobs k j is
 
 one_place : (os : List (Option (Pass Element))) (q : Pass Element) → pass_in os ≡ Some q → os ≡ Some q ∷ []
@@ -47,21 +49,23 @@ module _ {R : Type 0} (limits : R → Limits) (s : Named R) where
 abbrev pub parts_of : {X P W T S : Type 0} {G : Ghosts X P (Keyed W T S)} → Named (Places X P (Keyed W T S) G) → List (Stream T S)
 parts_of s = first_of (origin_of s.given.first)
 
-module _ {X P W T S A : Type 0} {G : Ghosts X P (Keyed W T S)} (step : Keyed W T S → S → T → S → Type 0) (s : Named (Places X P (Keyed W T S) G)) (most : ℕ) where
+module _ {X P W T S A Z : Type 0} {G : Ghosts X P (Keyed W T S)} (step : Keyed W T S → S → T → S → Type 0) (s : Named (Places X P (Keyed W T S) G)) (most : ℕ) where
   -- a pass that has seen nothing may do its task
-  may_new : (rings : ℕ) → ServesPlaces limits_of s.given rings (length (parts_of s)) → length s.given.quotas ≡ rings → (task : RingTask T S A) (p : Pass Element) (k : ℕ) → IsNewTask rings most (parts_of s) k task → IsPassOf number_of s.gate p → number p ≡ k → seen p ≡ [] → MayRun step s most task p
-  may_new rings serves many (Task'.Serve ring) p k t is number_is none = may_serve step s rings most k serves p is number_is t.0 none ring t.1
-  may_new rings serves many (Task'.Served ended) p k t is number_is none = absurd t
-  may_new rings serves many Task'.Work p k t is number_is none = (is, omega (arith, number_is, t, many))
+  may_new : (rings : ℕ) → ServesPlaces limits_of s.given rings (length (parts_of s)) → (task : RingTask T S A Z) (p : Pass Element) (k : ℕ) → IsNewTask rings (length s.given.quotas) most (parts_of s) k task → IsPassOf number_of s.gate p → number p ≡ k → seen p ≡ [] → MayRun step s most task p
+  may_new rings serves (Task'.Serve ring) p k t is number_is none = may_serve step s rings most k serves p is number_is t.0 none ring t.1
+  may_new rings serves (Task'.Served ended) p k t is number_is none = absurd t
+  may_new rings serves Task'.Watch p k t is number_is none = may_look limits_of s rings (length (parts_of s)) serves p is (let e = t.0 in omega (arith, number_is, e)) (let e = t.1 in omega (arith, number_is, e)) none
+  may_new rings serves (Task'.Watched w) p k t is number_is none = absurd t
+  may_new rings serves Task'.Work p k t is number_is none = (is, omega (arith, number_is, t))
 
   -- the job holds the pass of this number, which may do the job's task
-  abbrev pub ReadyAt : ℕ → Job (RingTask T S A) → Type 0
+  abbrev pub ReadyAt : ℕ → Job (RingTask T S A Z) → Type 0
   ReadyAt k j = (x : Pass Element) × (j.places.items ≡ Some x ∷ []) × MayRun step s most j.task x × (number x ≡ k)
 
-  pub all_new : (rings : ℕ) → ServesPlaces limits_of s.given rings (length (parts_of s)) → length s.given.quotas ≡ rings → (count : ℕ) (jobs : List (Job (RingTask T S A))) (passes : List (Pass Element)) (old : ℕ → List (Option (Pass Element)))
-      → AreNewTasks rings most (parts_of s) (tasks_in jobs) → AreHanded 0 count 0 passes old (lent_to jobs) → ((i : ℕ) → old i ≡ []) → AreFresh number_of s.gate 0 passes
-      → (k : ℕ) (j : Job (RingTask T S A)) → k ≤ count → slice_get jobs k ≡ Some j → ReadyAt k j
-  all_new rings serves many count jobs passes old tasks handed none fresh k j le is =
+  pub all_new : (rings : ℕ) → ServesPlaces limits_of s.given rings (length (parts_of s)) → (count : ℕ) (jobs : List (Job (RingTask T S A Z))) (passes : List (Pass Element)) (old : ℕ → List (Option (Pass Element)))
+      → AreNewTasks rings (length s.given.quotas) most (parts_of s) (tasks_in jobs) → AreHanded 0 count 0 passes old (lent_to jobs) → ((i : ℕ) → old i ≡ []) → AreFresh number_of s.gate 0 passes
+      → (k : ℕ) (j : Job (RingTask T S A Z)) → k ≤ count → slice_get jobs k ≡ Some j → ReadyAt k j
+  all_new rings serves count jobs passes old tasks handed none fresh k j le is =
       let r = handed.each k le in
       let at : holder 0 count 0 k ≡ k = elim (cases_eq k count) [
         | inl e ↦ ap (holder 0 count 0) e ∙ (holds_last 0 count 0 ∙ (let e : 0 + count + 0 ≡ k = omega (arith, e) in e))
@@ -70,32 +74,32 @@ module _ {X P W T S A : Type 0} {G : Ghosts X P (Keyed W T S)} (step : Keyed W T
       let f = fresh_at number_of s.gate 0 passes k r.0 fresh r.1 in
       let n : number r.0 ≡ k = omega (arith, f.1) in
       let places : j.places.items ≡ Some r.0 ∷ [] = sym (lent_got jobs k j is) ∙ (ap (lent_to jobs) (sym at) ∙ (r.2 ∙ ap (λ l. l ++ Some r.0 ∷ []) (none (holder 0 count 0 k)))) in
-      (r.0, places, may_new rings serves many j.task r.0 k (tasks.each k j.task (task_got jobs k j is)) f.0 n f.2, n)
+      (r.0, places, may_new rings serves j.task r.0 k (tasks.each k j.task (task_got jobs k j is)) f.0 n f.2, n)
 
-  pub all_ready : (jobs : List (Job (RingTask T S A))) → ((k : ℕ) (j : Job (RingTask T S A)) → slice_get jobs k ≡ Some j → ReadyAt k j) → (k : ℕ) (d : Job (RingTask T S A)) → k < length jobs → IsReady step s most (slice_index_or jobs k d)
+  pub all_ready : (jobs : List (Job (RingTask T S A Z))) → ((k : ℕ) (j : Job (RingTask T S A Z)) → slice_get jobs k ≡ Some j → ReadyAt k j) → (k : ℕ) (d : Job (RingTask T S A Z)) → k < length jobs → IsReady step s most (slice_index_or jobs k d)
   all_ready jobs new k d lt =
       let o = some_at jobs k lt in
       let n = new k o.0 o.1 in
       subst (IsReady step s most) (sym (get_or_from_slice_get jobs k o.0 d o.1)) (subst (ReadyFor step s most o.0.task) (ap pass_in (sym n.1)) n.2)
 
-  module _ (Q : A → ServedSource A T S → Type 0) (old new : List (Job (RingTask T S A))) (n : length old ≡ length new)
-      (ran : (k : ℕ) (d : Job (RingTask T S A)) → k < length old → Ran limits_of s Q (slice_index_or old k d) (slice_index_or new k d)) where
+  module _ (Q : A → ServedSource A T S → Type 0) (L : Watched Z → Type 0) (old new : List (Job (RingTask T S A Z))) (n : length old ≡ length new)
+      (ran : (k : ℕ) (d : Job (RingTask T S A Z)) → k < length old → Ran limits_of s Q L (slice_index_or old k d) (slice_index_or new k d)) where
     -- what each job did
-    did_at : (k : ℕ) (o j : Job (RingTask T S A)) → slice_get old k ≡ Some o → slice_get new k ≡ Some j → Ran limits_of s Q o j
+    did_at : (k : ℕ) (o j : Job (RingTask T S A Z)) → slice_get old k ≡ Some o → slice_get new k ≡ Some j → Ran limits_of s Q L o j
     did_at k o j was is =
-        let r = subst (λ (a : Job (RingTask T S A)). Ran limits_of s Q a (slice_index_or new k j)) (get_or_from_slice_get old k o j was) (ran k j (slice_get_within old k o was)) in
-        subst (λ (b : Job (RingTask T S A)). Ran limits_of s Q o b) (get_or_from_slice_get new k j j is) r
+        let r = subst (λ (a : Job (RingTask T S A Z)). Ran limits_of s Q L a (slice_index_or new k j)) (get_or_from_slice_get old k o j was) (ran k j (slice_get_within old k o was)) in
+        subst (λ (b : Job (RingTask T S A Z)). Ran limits_of s Q L o b) (get_or_from_slice_get new k j j is) r
 
-    pub tasks_done : (k : ℕ) (t u : RingTask T S A) → slice_get (tasks_in old) k ≡ Some t → slice_get (tasks_in new) k ≡ Some u → HasDone Q t u
+    pub tasks_done : (k : ℕ) (t u : RingTask T S A Z) → slice_get (tasks_in old) k ≡ Some t → slice_get (tasks_in new) k ≡ Some u → HasDone Q L t u
     tasks_done k t u was is =
-        let o = some_at old k (omega (arith, slice_get_within (tasks_in old) k t was, length-map old (λ (j : Job (RingTask T S A)). j.task))) in
-        let j = some_at new k (omega (arith, slice_get_within (tasks_in new) k u is, length-map new (λ (j : Job (RingTask T S A)). j.task))) in
+        let o = some_at old k (omega (arith, slice_get_within (tasks_in old) k t was, length-map old (λ (j : Job (RingTask T S A Z)). j.task))) in
+        let j = some_at new k (omega (arith, slice_get_within (tasks_in new) k u is, length-map new (λ (j : Job (RingTask T S A Z)). j.task))) in
         let first : o.0.task ≡ t = cc (sym (task_got old k o.0 o.1) ∙ was) in
         let then : j.0.task ≡ u = cc (sym (task_got new k j.0 j.1) ∙ is) in
-        subst (HasDone Q t) then (subst (λ (a : RingTask T S A). HasDone Q a j.0.task) first (did_at k o.0 j.0 o.1 j.1).1)
+        subst (HasDone Q L t) then (subst (λ (a : RingTask T S A Z). HasDone Q L a j.0.task) first (did_at k o.0 j.0 o.1 j.1).1)
 
-    module _ (are : (k : ℕ) (j : Job (RingTask T S A)) → slice_get old k ≡ Some j → ReadyAt k j) where
-      all_done : (k : ℕ) (j : Job (RingTask T S A)) → slice_get new k ≡ Some j → (q : Pass Element) × (j.places.items ≡ Some q ∷ []) × MayEnd limits_of k s q
+    module _ (are : (k : ℕ) (j : Job (RingTask T S A Z)) → slice_get old k ≡ Some j → ReadyAt k j) where
+      all_done : (k : ℕ) (j : Job (RingTask T S A Z)) → slice_get new k ≡ Some j → (q : Pass Element) × (j.places.items ≡ Some q ∷ []) × MayEnd limits_of k s q
       all_done k j is =
           let o = some_at old k (omega (arith, slice_get_within new k j is, n)) in
           let w = are k o.0 o.1 in
@@ -103,19 +107,26 @@ module _ {X P W T S A : Type 0} {G : Ghosts X P (Keyed W T S)} (step : Keyed W T
           let d = ended_at limits_of s w.0 (pass_in j.places.items) (subst (λ (a : Option (Pass Element)). EndedFrom limits_of s a (pass_in j.places.items)) (ap pass_in w.1) t.0) in
           (d.0, one_place j.places.items d.0 d.1, subst (λ (m : ℕ). MayEnd limits_of m s d.0) w.3 d.2)
 
-      -- what is left of a source knows the pass that is left, which has its number
-      pub known_pass : (k : ℕ) (d : ServedSource A T S) → slice_get (tasks_in new) k ≡ Some (Task'.Served d) → (lent_to new k ≡ Some d.pass.value ∷ []) × (number d.pass.value ≡ k)
-      known_pass k d is =
-          let j = some_at new k (omega (arith, slice_get_within (tasks_in new) k (Task'.Served d) is, length-map new (λ (j : Job (RingTask T S A)). j.task))) in
+      -- what a task knows as the pass that is left is that pass
+      known_as : (k : ℕ) (u : RingTask T S A Z) (v : Pass Element) → ((o : Option (Pass Element)) → KnowsPass u o → o ≡ Some v) → slice_get (tasks_in new) k ≡ Some u → (lent_to new k ≡ Some v ∷ []) × MayEnd limits_of k s v
+      known_as k u v says is =
+          let j = some_at new k (omega (arith, slice_get_within (tasks_in new) k u is, length-map new (λ (j : Job (RingTask T S A Z)). j.task))) in
           let o = some_at old k (omega (arith, slice_get_within new k j.0 j.1, n)) in
-          let task : j.0.task ≡ Task'.Served d = cc (sym (task_got new k j.0 j.1) ∙ is) in
-          let knows : pass_in j.0.places.items ≡ Some d.pass.value = subst (λ (u : RingTask T S A). KnowsPass u (pass_in j.0.places.items)) task (did_at k o.0 j.0 o.1 j.1).2 in
+          let task : j.0.task ≡ u = cc (sym (task_got new k j.0 j.1) ∙ is) in
+          let knows : pass_in j.0.places.items ≡ Some v = says (pass_in j.0.places.items) (subst (λ (t : RingTask T S A Z). KnowsPass t (pass_in j.0.places.items)) task (did_at k o.0 j.0 o.1 j.1).2) in
           let all = all_done k j.0 j.1 in
-          let same : all.0 ≡ d.pass.value = one (sym (ap pass_in all.1) ∙ knows) in
-          (lent_got new k j.0 j.1 ∙ one_place j.0.places.items d.pass.value knows, ap number (sym same) ∙ all.2.is_number)
+          let same : all.0 ≡ v = one (sym (ap pass_in all.1) ∙ knows) in
+          (lent_got new k j.0 j.1 ∙ one_place j.0.places.items v knows, subst (λ (q : Pass Element). MayEnd limits_of k s q) same all.2)
         where
           one : {x y : Pass Element} → Some x ≡ Some y → x ≡ y
           one e = cc e
+
+      -- so it is of what is left of a source, and of who looked
+      pub known_pass : (k : ℕ) (d : ServedSource A T S) → slice_get (tasks_in new) k ≡ Some (Task'.Served d) → (lent_to new k ≡ Some d.pass.value ∷ []) × (number d.pass.value ≡ k)
+      known_pass k d is = let r = known_as k (Task'.Served d) d.pass.value (λ o e. e) is in (r.0, r.1.is_number)
+
+      pub known_watch : (k : ℕ) (w : Watched Z) → slice_get (tasks_in new) k ≡ Some (Task'.Watched w) → (lent_to new k ≡ Some w.pass.value ∷ []) × MayEnd limits_of k s w.pass.value
+      known_watch k w is = known_as k (Task'.Watched w) w.pass.value (λ o e. e) is
 
       -- so the passes are lent when all jobs are done
       pub done_lent : (count : ℕ) → length s.given.quotas ≡ count → length new ≡ count + 1 → AreLent (MayEnd limits_of) 0 count (s ∷ []) (lent_to new)

@@ -22,7 +22,7 @@ use Rattle.squeue_streams.specs.declared.streams.Stream.{Stream}
 use Rattle.squeue_streams.specs.Taking.{count_of, input_of, most_feeds, most_leaves}
 use Rattle.stream_stays.specs.declared.place.Place.{Place}
 use Rattle.stream_stays.specs.declared.place.Place.TheVariants.{Vacant}
-use Rattle.squeue_arrivals.specs.Seating.{AreNewPairs, IsNewPair, IsNewPlace, ServesPlaces, lives_of, one_life}
+use Rattle.squeue_arrivals.specs.Seating.{AreNewPairs, IsNewPair, IsNewPlace, ServesPlaces, lives_of, looker_life, one_life}
 
 pub long : {A : Type 0} (n : ℕ) (x : A) → length (replicate n x) ≡ n
 long zero x = refl
@@ -33,10 +33,21 @@ index_is zero c m lt = absurd (omega (arith, lt))
 index_is (suc n) zero m lt = refl
 index_is (suc n) (suc c) m lt = index_is n c m (omega (arith, lt))
 
-pub one_is : {A : Type 0} (n r : ℕ) (x d : A) → r < n → slice_index_or (replicate n x) r d ≡ x
+pub front_is : {A : Type 0} (n r : ℕ) (x : A) (ys : List A) (d : A) → r < n → slice_index_or (replicate n x ++ ys) r d ≡ x
+front_is zero r x ys d lt = absurd (omega (arith, lt))
+front_is (suc n) zero x ys d lt = refl
+front_is (suc n) (suc r) x ys d lt = front_is n r x ys d (omega (arith, lt))
+
+one_is : {A : Type 0} (n r : ℕ) (x d : A) → r < n → slice_index_or (replicate n x) r d ≡ x
 one_is zero r x d lt = absurd (omega (arith, lt))
 one_is (suc n) zero x d lt = refl
 one_is (suc n) (suc r) x d lt = one_is n r x d (omega (arith, lt))
+
+-- behind so many there are so many others
+pub behind_is : {A : Type 0} (n m r : ℕ) (x y d : A) → n ≤ r → r < n + m → slice_index_or (replicate n x ++ replicate m y) r d ≡ y
+behind_is zero m r x y d le lt = one_is m r y d (omega (arith, lt))
+behind_is (suc n) m zero x y d le lt = absurd (omega (arith, le))
+behind_is (suc n) m (suc r) x y d le lt = behind_is n m r x y d (omega (arith, le)) (omega (arith, lt))
 
 -- two facts of one answer
 pub both_ok : {A E : Type 0} {P Q S : A → Type 0} (r : Result A E) → ((x : A) → P x → Q x → S x) → IfOk r P → IfOk r Q → IfOk r S
@@ -64,24 +75,33 @@ none_first n c = go n c ∙ (let b : nat_lt c 0 ≡ false = grind (arith, nat_te
     go (suc n) (suc c) = go n c
 
 -- so few feeds and asks have all lives together
-pub lives_feeds : (n : ℕ) → feed_quotas (lives_of n) ≡ n * one_life.0
-lives_feeds zero = refl
-lives_feeds (suc n) = omega (arith, lives_feeds n)
+lookers_feeds : (l : ℕ) → feed_quotas (replicate l looker_life) ≡ 0
+lookers_feeds zero = refl
+lookers_feeds (suc l) = omega (arith, lookers_feeds l)
 
-pub lives_asks : (n : ℕ) → ask_quotas (lives_of n) ≡ n * one_life.1
-lives_asks zero = refl
-lives_asks (suc n) = omega (arith, lives_asks n)
+lookers_asks : (l : ℕ) → ask_quotas (replicate l looker_life) ≡ l * looker_life.1
+lookers_asks zero = refl
+lookers_asks (suc l) = omega (arith, lookers_asks l)
 
-pub lives_long : (n : ℕ) → length (lives_of n) ≡ n
-lives_long n = long n one_life
+pub lives_feeds : (n l : ℕ) → feed_quotas (lives_of n l) ≡ n * one_life.0
+lives_feeds zero l = omega (arith, lookers_feeds l)
+lives_feeds (suc n) l = omega (arith, lives_feeds n l)
+
+pub lives_asks : (n l : ℕ) → ask_quotas (lives_of n l) ≡ n * one_life.1 + l * looker_life.1
+lives_asks zero l = omega (arith, lookers_asks l)
+lives_asks (suc n) l = omega (arith, lives_asks n l)
+
+pub lives_long : (n l : ℕ) → length (lives_of n l) ≡ n + l
+lives_long n l = omega (arith, length-append (replicate n one_life) (replicate l looker_life), long n one_life, long l looker_life)
 
 -- a squeue of places where nobody is
-pub serves : {R : Type 0} (stands : R → Blocks → Type 0) (size : R → ℕ) (limits : R → Limits) (rings room : ℕ) (quotas : List (ℕ × ℕ)) (first : R) (g : Given R) → IsMade stands size 0 rings quotas false room first g → 1 ≤ rings
-    → quotas ≡ lives_of rings → stands first (all_new 0) → (limits first).feeds ≡ replicate (size first) most_feeds → (limits first).leaves ≡ replicate (size first) most_leaves → ServesPlaces limits g rings (size first)
-serves stands size limits rings room quotas first g m few are new feeds leaves =
+pub serves : {R : Type 0} (stands : R → Blocks → Type 0) (size : R → ℕ) (limits : R → Limits) (number rings lookers room : ℕ) (quotas : List (ℕ × ℕ)) (first : R) (g : Given R) → IsMade stands size number rings quotas false room first g → 1 ≤ rings
+    → quotas ≡ lives_of rings lookers → stands first (all_new 0) → (limits first).feeds ≡ replicate (size first) most_feeds → (limits first).leaves ≡ replicate (size first) most_leaves → ServesPlaces limits g rings (size first)
+serves stands size limits number rings lookers room quotas first g m few are new feeds leaves =
     record {
       its_rings = m.its_rings;
       few = few;
+      lookers = lookers;
       quotas = m.its_quotas ∙ are;
       conns = m.its_conns;
       away = λ c.

@@ -1,5 +1,5 @@
 -- A source whose ring is done is served.
-use Rattle.std.proofs.Common.{◌≡◌, ℕ, ◌+◌, ◌*◌, Some, List, length, slice_get, ap, sym, ◌∙◌, subst, arith}
+use Rattle.std.proofs.Common.{◌≡◌, ℕ, ◌+◌, ◌*◌, Some, List, length, slice_get, refl, ap, sym, ◌∙◌, subst, arith}
 use Rattle.std.specs.Prelude.{Contains, nat_eq, option_map}
 use Rattle.std.specs.List.{IsDistinct}
 use Rattle.std.proofs.lemmas.List.{length-map}
@@ -19,13 +19,13 @@ use Rattle.squeue_arrivals.specs.Arriving.{HasGiven, IsMadeOf, IsServed, IsServe
 use Rattle.squeue_arrivals.specs.Keyed.{AreBegun, Tells, work_of}
 use Rattle.squeue_arrivals.specs.Keeping.{AllCame, AreClosed, IsTable}
 use Rattle.squeue_arrivals.specs.Placed.{keys_in, most_in, place_of}
-use Rattle.squeue_arrivals.specs.Stayed.{HasStay}
+use Rattle.squeue_arrivals.specs.Stayed.{WasFed}
 use Rattle.squeue_arrivals.specs.declared.ring_keys.RingKeys.{RingKeys}
 use Rattle.squeue_arrivals.specs.declared.served.KeyPart.{KeyPart}
 use Rattle.squeue_arrivals.specs.declared.served.ServedSource.{ServedSource}
 use Rattle.squeue_arrivals.specs.declared.steps.Keyed.{Keyed}
 use Rattle.squeue_arrivals.proofs.Closing.{made_of}
-use Rattle.squeue_arrivals.proofs.StaysKept.{stay_on}
+use Rattle.squeue_arrivals.proofs.StaysKept.{fed_on}
 
 module _ {R W T S A O : Type 0} (begins : W → S → Type 0) (step : W → S → T → S → Type 0) (origin : A → O) (given : A → List (ℕ × T)) (is_over : A → Type 0) (limits : R → Limits) (s : Named R)
     (o : Keyed W T S) (most : ℕ) where
@@ -62,12 +62,11 @@ module _ {R W T S A O : Type 0} (begins : W → S → Type 0) (step : W → S �
             let key : slice_get (keys_in k) i ≡ Some part.key = ap (λ (l : List ℕ). slice_get l i) (sym keys) ∙ (slice_get-map (λ p. p.key) left.parts.items i ∙ ap (λ x. option_map (λ p. p.key) x) at) in
             let S = setting_of limits s.given in
             let n = length (items_for part.key all) in
-            let now = stay_on S (number p) (place_of k i) n (seen p) (seen q) grows (closed.at i part.key key).2 in
-            let mine = subst (λ (m : ℕ). HasStay S m (place_of k i) n (seen q)) (sym same) now in
+            let mine = fed_on S (number p) (number q) (place_of k i) n n (seen p) (seen q) grows same refl (closed.at i part.key key).2 in
             let place : place_of k i ≡ number q + i * s.given.rings =
             ap (λ (m : ℕ). m + i * k.rings) (number_is ∙ sym same) ∙ ap (λ (m : ℕ). number q + i * m) rings_are in
-            let there = subst (λ (c : ℕ). HasStay S (number q) c n (seen q)) place mine in
-            subst (λ (x : Pass Element). HasStay S (number x) (number x + i * s.given.rings) n (seen x)) (sym last) there;
+            let there = subst (λ (c : ℕ). WasFed S (number q) c n (seen q)) place mine in
+            subst (λ (x : Pass Element). WasFed S (number x) (number x + i * s.given.rings) n (seen x)) (sym last) there;
       }
 
 -- what is so of what a ring's pass has seen is so of the history at its squeue's end
@@ -82,8 +81,8 @@ module _ {W T S A O : Type 0} (begins : W → S → Type 0) (step : W → S → 
           stays = λ i part got.
               let n = length (items_for part.key h.served.all) in
               let p = number left.pass.value in
-              let now = stay_on at p (p + i * at.rings) n (seen left.pass.value) end.history grows (h.stays i part got) in
-              let mine = subst (λ (m : ℕ). HasStay at m (m + i * at.rings) n end.history) number_is now in
-              subst (λ (S : Setting). HasStay S k (k + i * S.rings) n end.history) (sym setting) mine;
+              let now = fed_on at p p (p + i * at.rings) n n (seen left.pass.value) end.history grows refl refl (h.stays i part got) in
+              let mine = subst (λ (m : ℕ). WasFed at m (m + i * at.rings) n end.history) number_is now in
+              subst (λ (S : Setting). WasFed S k (k + i * S.rings) n end.history) (sym setting) mine;
         };
       }

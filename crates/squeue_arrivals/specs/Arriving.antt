@@ -1,23 +1,20 @@
 -- What is made of items that arrive with their keys.
-use Rattle.std.specs.Prelude.{◌≡◌, ◌≢◌, ℕ, ◌+◌, ◌-◌, ◌*◌, ◌^◌, ◌≤◌, ◌==◌, nat_eq, Option, None, Some, List, [], ◌∷◌, ◌++◌, Contains, filter, length, map, slice_get}
+use Rattle.std.specs.Prelude.{◌≡◌, ◌≢◌, ℕ, ◌+◌, ◌*◌, ◌^◌, ◌≤◌, ◌==◌, nat_eq, Option, None, Some, List, [], ◌∷◌, ◌++◌, Contains, filter, length, map, slice_get}
 use Rattle.std.specs.List.{IsDistinct}
 use Rattle.turn_gate.specs.Passes.{number, seen}
 use Rattle.perimeter_core.specs.History.{Element, Setting}
 use Rattle.histories.specs.Endings.{Ending, HasEnded}
 use Rattle.squeue_streams.specs.Taking.{Takes}
-use Rattle.squeue_arrivals.specs.Stayed.{HasStay}
+use Rattle.squeue_arrivals.specs.Stayed.{WasFed}
 use Rattle.squeue_arrivals.specs.declared.served.Cause.{Cause}
 use Rattle.squeue_arrivals.specs.declared.served.Cause.TheVariants as Cause'
 use Rattle.squeue_arrivals.specs.declared.served.KeyPart.{KeyPart}
 use Rattle.squeue_arrivals.specs.declared.served.Refused.{Refused}
 use Rattle.squeue_arrivals.specs.declared.served.ServedSource.{ServedSource}
 
--- so many items a place takes for its key, and so many items a ring serves
-abbrev pub most_of_key : ℕ
-most_of_key = 2 ^ 32 - 1
-
+-- so many items a ring serves
 abbrev pub most_of_ring : ℕ
-most_of_ring = 2 ^ 50
+most_of_ring = 2 ^ 49
 
 -- the items of a key, in their order
 abbrev pub items_for : {T : Type 0} → ℕ → List (ℕ × T) → List T
@@ -36,7 +33,6 @@ module _ {T : Type 0} where
   -- After these items of a ring, which has so many keys and no more than `most` places, it has cause to refuse one of this key
   abbrev pub HasCause : Cause → ℕ → ℕ → List (ℕ × T) → ℕ → Type 0
   HasCause Cause'.NoPlace most many all k = (many ≡ most) × (items_for k all ≡ [])
-  HasCause Cause'.KeyIsFull most many all k = most_of_key ≤ length (items_for k all)
   HasCause Cause'.LifeIsOver most many all k = most_of_ring ≤ length all
 
 -- these items lead to the state, one after another, from one in which a key may begin
@@ -66,12 +62,12 @@ module _ {W T S A O : Type 0} (begins : W → S → Type 0) (step : W → S → 
         → (items_for part.key all ≢ []) × IsMadeOf begins step work (items_for part.key all) part.state
     pub every : (k : ℕ) → items_for k all ≢ [] → Contains (keys_of left.parts.items) k
 
-  -- and in this history of this setting ring k took out the part of each key, which had had a feed for each of its items: the part of the
-  -- i-th key is number k plus i times the rings
+  -- and in this history of this setting the part of each key had a feed for each of its items, in stays each of which ring k ended: the part
+  -- of the i-th key is number k plus i times the rings
   pub record IsServedBy (at : Setting) (k : ℕ) (H : List Element) (source : A) (left : ServedSource A T S) : Type 0 where
     pub served : IsServed source left
     pub stays : (i : ℕ) (part : KeyPart S) → slice_get left.parts.items i ≡ Some part
-        → HasStay at k (k + i * at.rings) (length (items_for part.key served.all)) H
+        → WasFed at k (k + i * at.rings) (length (items_for part.key served.all)) H
 
   -- so it is of all that the ring's pass has seen, which is a beginning of its squeue's history
   abbrev pub IsServedAt : Setting → A → ServedSource A T S → Type 0

@@ -3,19 +3,21 @@ use Rattle.std.specs.Prelude.{◌≡◌, ◌≢◌, ℕ, ◌+◌, ◌<◌, ◌�
 use Rattle.std.specs.HashSet.{IsUnique, spare}
 use Rattle.turn_gate.specs.Passes.{number, seen}
 use Rattle.turn_gate.specs.declared.pass.Pass.{Pass}
-use Rattle.perimeter_core.specs.History.{Element, Limits}
+use Rattle.perimeter_core.specs.History.{Element, Limits, Setting}
 use Rattle.squeue_state.specs.Naming.{Named, setting_of}
 use Rattle.stream_stays.specs.declared.place.Place.TheVariants.{Open, Vacant as Vacant'}
 use Rattle.stream_stays.specs.declared.place.Stays.{Stays}
 use Rattle.stream_stays.specs.declared.stay.Stay.{Stay}
 use Rattle.stream_stays.specs.declared.stay.Vacant.{Vacant}
-use Rattle.stream_stays.specs.Places.{CanOpen, Knows, chain_of, place_at, touched_of}
-use Rattle.stream_stays.specs.Staying.{before_of}
-use Rattle.stream_stays.specs.Settling.{sent_in}
+use Rattle.stream_stays.specs.Places.{Knows, chain_of, place_at, touched_of}
+use Rattle.stream_stays.specs.Staying.{before_of, leaves_of, sent_of}
+use Rattle.stream_stays.specs.Settling.{SameAt, sent_in}
+use Rattle.rtrb.specs.Ring.{sent}
+use Rattle.squeue_streams.specs.Taking.{most_leaves}
 use Rattle.squeue_arrivals.specs.Arriving.{HasCause, items_for}
 use Rattle.squeue_arrivals.specs.Keyed.{IsFirst}
 use Rattle.squeue_arrivals.specs.Placed.{keys_in, most_in, place_of}
-use Rattle.squeue_arrivals.specs.Stayed.{HasStay}
+use Rattle.squeue_arrivals.specs.Stayed.{WasFed}
 use Rattle.squeue_arrivals.specs.declared.served.Refused.{Refused}
 use Rattle.squeue_arrivals.specs.declared.ring_keys.RingKeys.{RingKeys}
 use Rattle.squeue_arrivals.specs.declared.steps.Keyed.{Keyed}
@@ -25,21 +27,28 @@ module _ {T S : Type 0} where
   abbrev pub IsVacant : Stays T S → ℕ → Type 0
   IsVacant st c = (v : Vacant T S) × (place_at st c ≡ Some (Vacant' v))
 
-  -- a part stays there, to which nothing was sent before its stay began
-  abbrev pub IsWhole : Stays T S → ℕ → Type 0
-  IsWhole st c = (stay : Stay T) × (place_at st c ≡ Some (Open stay)) × (before_of stay ≡ [])
+  -- it was at none yet, and nothing was sent there
+  pub record IsUnused (st : Stays T S) (c : ℕ) : Type 0 where
+    pub vacant : Vacant T S
+    pub is_vacant : place_at st c ≡ Some (Vacant' vacant)
+    pub none : sent vacant.producer ≡ []
+    pub leaves : most_leaves ≤ vacant.leaves
 
-  -- where a part stays, or can be put in, it still does, and the same was sent there
-  pub record Keeps (a b : Stays T S) : Type 0 where
-    pub opens : (d : ℕ) → IsWhole a d → IsWhole b d
-    pub vacant : (d : ℕ) → CanOpen a d → CanOpen b d
-    pub sent : (d : ℕ) → sent_in (place_at b d) ≡ sent_in (place_at a d)
+  -- Its part stays at the squeue, and these items were sent there. What the pass has seen has stays of it, with a feed for each of those that
+  -- were sent before this stay; and it may leave still, as often as at first but for so many times
+  pub record Serves (at : Setting) (p : Pass Element) (st : Stays T S) (c : ℕ) (items : List T) (times : ℕ) : Type 0 where
+    pub stay : Stay T
+    pub is_open : place_at st c ≡ Some (Open stay)
+    pub its_items : sent_of stay ≡ items
+    pub before : WasFed at (number p) c (length (before_of stay)) (seen p)
+    pub leaves : most_leaves ≤ leaves_of stay + times
 
-  -- the same of all other places
-  pub record KeepsBut (c : ℕ) (a b : Stays T S) : Type 0 where
-    pub opens : (d : ℕ) → d ≢ c → IsWhole a d → IsWhole b d
-    pub vacant : (d : ℕ) → d ≢ c → CanOpen a d → CanOpen b d
-    pub sent : (d : ℕ) → d ≢ c → sent_in (place_at b d) ≡ sent_in (place_at a d)
+  -- each place has the same, and the same was sent there; or each but one
+  abbrev pub Keeps : Stays T S → Stays T S → Type 0
+  Keeps a b = (d : ℕ) → SameAt (place_at a d) (place_at b d)
+
+  abbrev pub KeepsBut : ℕ → Stays T S → Stays T S → Type 0
+  KeepsBut c a b = (d : ℕ) → d ≢ c → SameAt (place_at a d) (place_at b d)
 
 -- no two of the keys are one, there are no more than places, and each of these items is of one of them
 pub record IsTable {T : Type 0} (all : List (ℕ × T)) (k : RingKeys) : Type 0 where
@@ -63,14 +72,13 @@ module _ {W T S : Type 0} (step : Keyed W T S → S → T → S → Type 0) {R :
     pub entered : chain_of st ≡ []
     pub settled : touched_of st ≡ []
 
-  -- Each key has its place, where a part stays to which all its items of these were sent since it came; each other place can be opened, and nothing was sent
-  -- there
+  -- Each key has its place, where all its items of these were sent, and which was renewed no more often than they are; each other place is unused
   pub record HasKeys (all : List (ℕ × T)) (p : Pass Element) (st : Stays T S) (k : RingKeys) : Type 0 where
     pub knows : Knows IsFirst step limits s o p st
     pub table : IsTable all k
     pub at : (i key : ℕ) → slice_get (keys_in k) i ≡ Some key
-        → IsWhole st (place_of k i) × (sent_in (place_at st (place_of k i)) ≡ items_for key all)
-    pub free : (i : ℕ) → length (keys_in k) ≤ i → i < most_in k → CanOpen st (place_of k i) × (sent_in (place_at st (place_of k i)) ≡ [])
+        → Serves (setting_of limits s.given) p st (place_of k i) (items_for key all) (length (items_for key all))
+    pub free : (i : ℕ) → length (keys_in k) ≤ i → i < most_in k → IsUnused st (place_of k i)
 
   -- and an item of each key came
   abbrev pub HasAll : List (ℕ × T) → Pass Element → Stays T S → RingKeys → Type 0
@@ -88,9 +96,9 @@ module _ {W T S : Type 0} (step : Keyed W T S → S → T → S → Type 0) {R :
   HasArrived all key item p st k (Some r) = HasAll all p st k × (r.key ≡ key) × (r.item ≡ item)
       × HasCause r.cause (most_in k) (length (keys_in k)) all key
 
-  -- The parts of all keys are at no squeue any more. What the pass has seen has a stay of each, with a feed for each of its items
+  -- The parts of all keys are at no squeue any more. What the pass has seen has stays of each, with a feed for each of its items
   pub record AreClosed (all : List (ℕ × T)) (p : Pass Element) (st : Stays T S) (k : RingKeys) : Type 0 where
     pub knows : Knows IsFirst step limits s o p st
     pub at : (i key : ℕ) → slice_get (keys_in k) i ≡ Some key
         → IsVacant st (place_of k i) × (sent_in (place_at st (place_of k i)) ≡ items_for key all)
-        × HasStay (setting_of limits s.given) (number p) (place_of k i) (length (items_for key all)) (seen p)
+        × WasFed (setting_of limits s.given) (number p) (place_of k i) (length (items_for key all)) (seen p)

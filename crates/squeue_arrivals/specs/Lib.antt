@@ -3,6 +3,7 @@ pub mod Told
 pub mod Giving
 pub mod Iterating
 pub mod Listing
+pub mod Channelling
 pub mod Keyed
 pub mod Pooling
 pub mod Stayed
@@ -10,4 +11,5 @@ pub mod Arriving
 pub mod Placed
 pub mod Keeping
 pub mod Seating
+pub mod Watching
 pub mod Tasks

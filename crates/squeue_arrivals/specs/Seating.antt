@@ -1,5 +1,5 @@
 -- How places are made and dealt to rings, and what their squeue is made with.
-use Rattle.std.specs.Prelude.{◌≡◌, ◌≢◌, ℕ, ◌%◌, ◌^◌, ◌<◌, ◌≤◌, false, Some, List, [], length}
+use Rattle.std.specs.Prelude.{◌≡◌, ◌≢◌, ℕ, ◌%◌, ◌^◌, ◌<◌, ◌≤◌, ◌++◌, Bool, true, false, Some, List, [], length}
 use Rattle.std.specs.Prelude.{replicate, slice_get, slice_index, slice_index_or}
 use Rattle.std.proofs.Common.{Global}
 use Rattle.rtrb.specs.declared.AnyItems.{AnyItems}
@@ -18,8 +18,17 @@ use Rattle.stream_stays.specs.Places.{chain_of, life_of, places_of, touched_of}
 abbrev pub one_life : ℕ × ℕ
 one_life = (2 ^ 52, 2 ^ 52)
 
-abbrev pub lives_of : ℕ → List (ℕ × ℕ)
-lives_of rings = replicate rings one_life
+-- and so much one of the passes of who looks, behind them
+abbrev pub looker_life : ℕ × ℕ
+looker_life = (0, 2 ^ 32)
+
+abbrev pub lives_of : ℕ → ℕ → List (ℕ × ℕ)
+lives_of rings lookers = replicate rings one_life ++ replicate lookers looker_life
+
+-- how many look at a squeue, by whether one does
+abbrev pub lookers_of : Bool → ℕ
+lookers_of true = 1
+lookers_of false = 0
 
 module _ {T S : Type 0} where
   -- the two ends of one ring, into which nothing was pushed
@@ -68,11 +77,13 @@ module _ {T S : Type 0} where
     pub none : (chain_of stays ≡ []) × (touched_of stays ≡ [])
 
 -- A squeue with so many rings and so many places, whose parts are elsewhere at its start: each may have so many feeds each time that it is
--- put in, and leave so often; and each ring's pass has a whole life
+-- put in, and leave so often; and each ring's pass has a whole life. Behind
+-- these are passes of who looks
 pub record ServesPlaces {R : Type 0} (limits : R → Limits) (g : Given R) (rings count : ℕ) : Type 0 where
   pub its_rings : g.rings ≡ rings
   pub few : 1 ≤ rings
-  pub quotas : g.quotas ≡ lives_of rings
+  pub lookers : ℕ
+  pub quotas : g.quotas ≡ lives_of rings lookers
   pub conns : length g.starts ≡ count
   pub away : (c : ℕ) → slice_index_or g.starts c false ≡ false
   pub feeds : (c : ℕ) → c < count → most_feeds ≤ slice_index (limits g.first).feeds c

@@ -1,15 +1,14 @@
 //! A channel as a source: any number of threads send items into it, each with its key.
 ghost use Rattle.std.specs.Prelude.{◌≡◌, []};
-ghost use Rattle.squeue_arrivals.specs.Giving.{given_by};
-ghost use Rattle.squeue_arrivals.specs.Told.{told};
+ghost use Rattle.squeue_arrivals.specs.Channelling.{received_by};
 
 use crate::given_items::GivenItems;
 use crate::source::{Arrival, Arrivals};
 use crossbeam_channel::{Receiver, TryRecvError};
 use std::sync::Wait;
 
-/// The end of a channel that receives. It is over when each sender was dropped, and nothing is left in the channel. What was received
-/// stands in `given`, for contracts alone.
+/// The end of a channel that receives. It is over when each sender was dropped, and nothing is left in the channel: no clause says so, since
+/// the contracts of a channel tell nothing of its ends, nor why nothing was received. What was received stands in `given`, for contracts alone.
 #[derive(Drop)]
 pub struct Channelled<'r, T: Drop, W: Wait> {
     rt: &'r W,
@@ -20,7 +19,7 @@ pub struct Channelled<'r, T: Drop, W: Wait> {
 impl<'r, T: Drop, W: Wait> Channelled<'r, T, W> {
     /// This end of a channel, of which nothing was received.
     pub fn of(rt: &'r W, input: Receiver<(u64, T)>) -> Channelled<'r, T, W>
-        ensures { given_by result.given ≡ [] }
+        ensures { received_by result ≡ [] }
     {
         Channelled {
             rt,
@@ -37,7 +36,7 @@ impl<T: Drop, W: Wait> Arrivals for Channelled<'_, T, W> {
 
     ghost origin = { λ _. tt };
 
-    ghost given = { λ s. given_by s.given };
+    ghost given = { received_by };
 
     ghost is_over = { λ _. Unit {0} };
 

@@ -2,7 +2,6 @@
 ghost use Rattle.std.specs.Prelude.{◌≡◌, [], List, ℕ};
 ghost use Rattle.squeue_arrivals.specs.Giving.{given_by};
 ghost use Rattle.squeue_arrivals.specs.Iterating.{IsRun, as_arrival, ends};
-ghost use Rattle.squeue_arrivals.specs.Told.{told};
 
 use crate::given_items::GivenItems;
 use crate::source::{Arrival, Arrivals};

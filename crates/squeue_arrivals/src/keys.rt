@@ -1,9 +1,10 @@
 //! Which key is at which place of a ring, and how items come to their keys.
 
-ghost use Rattle.std.specs.Prelude.{◌≡◌, ◌+◌, ◌≤◌, ℕ, Some, IfSome, Contains, slice_get};
+ghost use Rattle.std.specs.Prelude.{◌≡◌, ◌+◌, ◌<◌, ◌≤◌, ℕ, Some, IfSome, Contains, length, slice_get};
 ghost use Rattle.std.proofs.Common.{List};
 ghost use Rattle.turn_gate.specs.Passes.{number};
 ghost use Rattle.placed_parts.specs.Placing.{limits_of, origin_of};
+ghost use Rattle.squeue_arrivals.specs.Arriving.{most_of_ring};
 ghost use Rattle.squeue_arrivals.specs.Keyed.{Tells};
 ghost use Rattle.squeue_arrivals.specs.Keeping.{HasAll, HasArrived, HasSeated};
 ghost use Rattle.squeue_arrivals.specs.Placed.{SameRing, keys_in, place_of};
@@ -29,10 +30,11 @@ pub(crate) fn arrive<X: KeySteps + Drop, H: Wait + Drop, W: Wait>(
     key: u64,
     item: X::Item,
 ) -> (Pass, Option<Refused<X::Item>>)
-    requires keys { (all : List (ℕ × X.Item)) × HasAll (Tells X.step) limits_of line.now.squeue.now (origin_of line.now.squeue.now.given.first) all pass stays.old keys.old }
-    requires asks { 3 ≤ (life_of stays.old).asks }
+    requires keys { (all : List (ℕ × X.Item)) × HasAll (Tells X.step) limits_of line.now.squeue.now (origin_of line.now.squeue.now.given.first) all pass stays.old keys.old
+        × (length all < most_of_ring) }
+    requires asks { 6 ≤ (life_of stays.old).asks }
     ensures number { number result.0 ≡ number pass }
-    ensures asks { (life_of stays.old).asks ≤ (life_of stays.new).asks + 3 }
+    ensures asks { (life_of stays.old).asks ≤ (life_of stays.new).asks + 6 }
     ensures ring { SameRing keys.old keys.new }
     ensures arrived { (all : List (ℕ × X.Item)) → HasAll (Tells X.step) limits_of line.now.squeue.now (origin_of line.now.squeue.now.given.first) all pass stays.old keys.old
         → HasArrived (Tells X.step) limits_of line.now.squeue.now (origin_of line.now.squeue.now.given.first) all key item result.0 stays.new keys.new result.1 }
@@ -42,14 +44,8 @@ pub(crate) fn arrive<X: KeySteps + Drop, H: Wait + Drop, W: Wait>(
         let cause = Cause::NoPlace;
         return (pass, Some(Refused { key, item, cause }));
     };
-    let (pass, brought) = line.bring(alloc, pass, stays, c, item);
-    match brought {
-        Ok(()) => (pass, None),
-        Err(item) => {
-            let cause = Cause::KeyIsFull;
-            (pass, Some(Refused { key, item, cause }))
-        }
-    }
+    let pass = line.bring(alloc, pass, stays, c, item);
+    (pass, None)
 }
 
 // The place of a key, which takes one where it has none. Answers `None` where there is none for it.

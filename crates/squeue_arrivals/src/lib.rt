@@ -25,13 +25,15 @@ mod seating;
 mod served;
 mod source;
 mod steps;
+mod watching;
 
-pub use arriving::serve_arriving;
+pub use arriving::{serve_arriving, serve_watched};
 pub use channelled::Channelled;
 pub use given_items::GivenItems;
 pub use iterated::Iterated;
 pub use piped::Piped;
-pub use pool::ArrivalPool;
-pub use served::{Arrived, Cause, KeyPart, Refused, ServedSource};
+pub use pool::{ArrivalPool, SPAN};
+pub use served::{Arrived, Cause, KeyPart, Refused, ServedSource, WatchedArrived};
 pub use source::{Arrival, Arrivals, Listed};
 pub use steps::KeySteps;
+pub use watching::{WatchedEnd, Watches};

@@ -1,13 +1,20 @@
-//! How a thread uses the places of its pass: it opens them, brings items to them, and settles them.
+//! How a thread uses the places of its pass: it opens them, brings items to them, opens them anew, and settles them.
+//!
+//! While a place is open it numbers its feeds, by 32 bits. So where it has had as many items as the span it is closed and opened again
+//! between two items: what was made there stays as it is, and the next feed is the first one of a new stay.
 
-ghost use Rattle.std.specs.Prelude.{◌≡◌, ◌+◌, ◌≤◌, ◌++◌, ◌∷◌, [], true, length, MatchResult};
-ghost use Rattle.turn_gate.specs.Passes.{number};
+ghost use Rattle.std.specs.Prelude.{◌≡◌, ◌+◌, ◌<◌, ◌≤◌, ◌++◌, ◌∷◌, [], List, Some, ℕ, length};
+ghost use Rattle.turn_gate.specs.History.{Begins};
+ghost use Rattle.turn_gate.specs.Passes.{number, seen};
 ghost use Rattle.placed_parts.specs.Placing.{limits_of, origin_of};
-ghost use Rattle.stream_stays.specs.Places.{CanOpen, Knows, chain_of, life_of, place_at, places_of, touched_of};
-ghost use Rattle.stream_stays.specs.Settling.{sent_in};
-ghost use Rattle.squeue_arrivals.specs.Arriving.{most_of_key};
+ghost use Rattle.squeue_state.specs.Naming.{setting_of};
+ghost use Rattle.squeue_streams.specs.Taking.{most_feeds, most_leaves};
+ghost use Rattle.stream_stays.specs.Places.{Knows, chain_of, life_of, place_at, places_of, touched_of};
+ghost use Rattle.stream_stays.specs.Staying.{pushed_of};
+ghost use Rattle.stream_stays.specs.declared.place.Place.TheVariants.{Open};
+ghost use Rattle.stream_stays.specs.declared.stay.Stay.{Stay};
 ghost use Rattle.squeue_arrivals.specs.Keyed.{IsFirst, Tells};
-ghost use Rattle.squeue_arrivals.specs.Keeping.{IsSettled, IsWhole, Keeps, KeepsBut};
+ghost use Rattle.squeue_arrivals.specs.Keeping.{IsSettled, IsUnused, Keeps, KeepsBut, Serves};
 
 use crate::seating::KeyParts;
 use crate::steps::{KeySteps, Keyed};
@@ -17,14 +24,16 @@ use squeue_streams::SourcePace;
 use std::alloc::Global;
 use std::sync::Wait;
 use std::thread;
-use stream_stays::{Collects, Stays, enter_all, open_at, push_at, settle};
+use stream_stays::{Collects, Stays, close_at, enter_all, open_at, push_at, settle};
 
-/// How a thread reaches the parts of its squeue: how it waits, the squeue, and in which mode and with which budget it enters.
+/// How a thread reaches the parts of its squeue: how it waits, the squeue, in which mode and with which budget it enters, and after how
+/// many items it opens a place anew.
 #[derive(Drop)]
 pub(crate) struct Line<'q, R: Resident, W: Wait> {
     pub(crate) rt: &'q W,
     pub(crate) squeue: &'q Squeue<R>,
     pub(crate) pace: SourcePace,
+    pub(crate) span: u32,
 }
 
 // Who is shown states, and learns nothing.
@@ -43,6 +52,7 @@ impl<X: KeySteps + Drop, H: Wait + Drop, W: Wait> Line<'_, KeyParts<X, H>, W> {
         requires { Knows IsFirst (Tells X.step) limits_of self.now.squeue.now (origin_of self.now.squeue.now.given.first) pass stays.old }
         ensures knows { Knows IsFirst (Tells X.step) limits_of self.now.squeue.now (origin_of self.now.squeue.now.given.first) result stays.new }
         ensures number { number result ≡ number pass }
+        ensures grows { Begins (seen pass) (seen result) }
         ensures places { places_of stays.new ≡ places_of stays.old }
         ensures touched { touched_of stays.new ≡ touched_of stays.old }
         ensures life { life_of stays.new ≡ life_of stays.old }
@@ -70,6 +80,7 @@ impl<X: KeySteps + Drop, H: Wait + Drop, W: Wait> Line<'_, KeyParts<X, H>, W> {
         requires { Knows IsFirst (Tells X.step) limits_of self.now.squeue.now (origin_of self.now.squeue.now.given.first) pass stays.old }
         ensures knows { Knows IsFirst (Tells X.step) limits_of self.now.squeue.now (origin_of self.now.squeue.now.given.first) result stays.new }
         ensures number { number result ≡ number pass }
+        ensures grows { Begins (seen pass) (seen result) }
         ensures keeps { Keeps stays.old stays.new }
         ensures life { life_of stays.new ≡ life_of stays.old }
     {
@@ -88,6 +99,7 @@ impl<X: KeySteps + Drop, H: Wait + Drop, W: Wait> Line<'_, KeyParts<X, H>, W> {
         requires asks { 1 ≤ (life_of stays.old).asks }
         ensures settled { IsSettled (Tells X.step) limits_of self.now.squeue.now (origin_of self.now.squeue.now.given.first) result stays.new }
         ensures number { number result ≡ number pass }
+        ensures grows { Begins (seen pass) (seen result) }
         ensures keeps { Keeps stays.old stays.new }
         ensures asks { (life_of stays.old).asks ≤ (life_of stays.new).asks + 1 }
     {
@@ -96,7 +108,7 @@ impl<X: KeySteps + Drop, H: Wait + Drop, W: Wait> Line<'_, KeyParts<X, H>, W> {
         settle(self.squeue, self.rt, alloc, pass, stays, &mut nobody)
     }
 
-    /// Opens a place to which nothing was sent. It takes two asks.
+    /// Opens a place that is unused. It takes two asks.
     pub(crate) fn open(
         &self,
         alloc: Global,
@@ -105,13 +117,12 @@ impl<X: KeySteps + Drop, H: Wait + Drop, W: Wait> Line<'_, KeyParts<X, H>, W> {
         c: u32,
     ) -> Pass
         requires knows { Knows IsFirst (Tells X.step) limits_of self.now.squeue.now (origin_of self.now.squeue.now.given.first) pass stays.old }
-        requires vacant { CanOpen stays.old c }
-        requires none { sent_in (place_at stays.old c) ≡ [] }
+        requires unused { IsUnused stays.old c }
         requires asks { 2 ≤ (life_of stays.old).asks }
         ensures knows { Knows IsFirst (Tells X.step) limits_of self.now.squeue.now (origin_of self.now.squeue.now.given.first) result stays.new }
         ensures number { number result ≡ number pass }
-        ensures open { IsWhole stays.new c }
-        ensures sent { sent_in (place_at stays.new c) ≡ sent_in (place_at stays.old c) }
+        ensures grows { Begins (seen pass) (seen result) }
+        ensures open { Serves (setting_of limits_of self.now.squeue.now.given) result stays.new c [] 0 }
         ensures others { KeepsBut c stays.old stays.new }
         ensures asks { (life_of stays.old).asks ≤ (life_of stays.new).asks + 2 }
     {
@@ -119,8 +130,8 @@ impl<X: KeySteps + Drop, H: Wait + Drop, W: Wait> Line<'_, KeyParts<X, H>, W> {
         open_at(self.squeue, self.rt, alloc, pass, stays, c)
     }
 
-    /// Brings an item to a place. Where there is no room for it the places are settled first, which takes one ask. The item comes back
-    /// where the place has had as many as it takes.
+    /// Brings an item to a place, which is opened anew before where that is due. Where there is no room for the item the places are settled
+    /// first. It takes four asks at most.
     pub(crate) fn bring(
         &self,
         alloc: Global,
@@ -128,52 +139,65 @@ impl<X: KeySteps + Drop, H: Wait + Drop, W: Wait> Line<'_, KeyParts<X, H>, W> {
         stays: &mut Stays<X::Item, X::State>,
         c: u32,
         item: X::Item,
-    ) -> (Pass, Result<(), X::Item>)
+    ) -> Pass
         requires knows { Knows IsFirst (Tells X.step) limits_of self.now.squeue.now (origin_of self.now.squeue.now.given.first) pass stays.old }
-        requires open { IsWhole stays.old c }
-        requires asks { 1 ≤ (life_of stays.old).asks }
-        ensures knows { Knows IsFirst (Tells X.step) limits_of self.now.squeue.now (origin_of self.now.squeue.now.given.first) result.0 stays.new }
-        ensures number { number result.0 ≡ number pass }
-        ensures open { IsWhole stays.new c }
+        requires open { (items : List X.Item) × Serves (setting_of limits_of self.now.squeue.now.given) pass stays.old c items (length items) × (length items + 2 ≤ most_leaves) }
+        requires asks { 4 ≤ (life_of stays.old).asks }
+        ensures knows { Knows IsFirst (Tells X.step) limits_of self.now.squeue.now (origin_of self.now.squeue.now.given.first) result stays.new }
+        ensures number { number result ≡ number pass }
+        ensures grows { Begins (seen pass) (seen result) }
+        ensures brought { (items : List X.Item) → Serves (setting_of limits_of self.now.squeue.now.given) pass stays.old c items (length items)
+            → Serves (setting_of limits_of self.now.squeue.now.given) result stays.new c (items ++ item ∷ []) (length items + 1) }
         ensures others { KeepsBut c stays.old stays.new }
-        ensures brought { MatchResult result.1 (λ _. sent_in (place_at stays.new c) ≡ sent_in (place_at stays.old c) ++ item ∷ [])
-            (λ x. (x ≡ item) × (sent_in (place_at stays.new c) ≡ sent_in (place_at stays.old c)) × (most_of_key ≤ length (sent_in (place_at stays.new c)))) }
-        ensures asks { (life_of stays.old).asks ≤ (life_of stays.new).asks + 1 }
+        ensures asks { (life_of stays.old).asks ≤ (life_of stays.new).asks + 4 }
     {
+        let pass = self.renew(alloc, pass, stays, c);
         match push_at(self.squeue, &pass, stays, c, item) {
-            Ok(()) => (pass, Ok(())),
+            Ok(()) => pass,
             Err(item) => {
                 let pass = self.settle(alloc, pass, stays);
-                let brought = self.push(&pass, stays, c, item);
-                (pass, brought)
+                self.push(&pass, stays, c, item);
+                pass
             }
         }
     }
 
-    // Pushes an item at a place, once there is room for it.
-    fn push(
-        &self,
-        pass: &Pass,
-        stays: &mut Stays<X::Item, X::State>,
-        c: u32,
-        item: X::Item,
-    ) -> Result<(), X::Item>
-        requires knows { Knows IsFirst (Tells X.step) limits_of self.now.squeue.now (origin_of self.now.squeue.now.given.first) pass.now stays.old }
-        requires open { IsWhole stays.old c }
-        ensures knows { Knows IsFirst (Tells X.step) limits_of self.now.squeue.now (origin_of self.now.squeue.now.given.first) pass.now stays.new }
-        ensures open { IsWhole stays.new c }
+    // Closes a place that has had as many items as the span, behind all that was pushed there, and opens it again. It takes three asks.
+    fn renew(&self, alloc: Global, pass: Pass, stays: &mut Stays<X::Item, X::State>, c: u32) -> Pass
+        requires knows { Knows IsFirst (Tells X.step) limits_of self.now.squeue.now (origin_of self.now.squeue.now.given.first) pass stays.old }
+        requires open { (items : List X.Item) × Serves (setting_of limits_of self.now.squeue.now.given) pass stays.old c items (length items) × (length items + 2 ≤ most_leaves) }
+        requires asks { 3 ≤ (life_of stays.old).asks }
+        ensures knows { Knows IsFirst (Tells X.step) limits_of self.now.squeue.now (origin_of self.now.squeue.now.given.first) result stays.new }
+        ensures number { number result ≡ number pass }
+        ensures grows { Begins (seen pass) (seen result) }
+        ensures open { (items : List X.Item) → Serves (setting_of limits_of self.now.squeue.now.given) pass stays.old c items (length items)
+            → Serves (setting_of limits_of self.now.squeue.now.given) result stays.new c items (length items + 1) }
+        ensures few { (stay : Stay X.Item) → place_at stays.new c ≡ Some (Open stay) → pushed_of stay < most_feeds }
         ensures others { KeepsBut c stays.old stays.new }
-        ensures brought { MatchResult result (λ _. sent_in (place_at stays.new c) ≡ sent_in (place_at stays.old c) ++ item ∷ [])
-            (λ x. (x ≡ item) × (sent_in (place_at stays.new c) ≡ sent_in (place_at stays.old c)) × (most_of_key ≤ length (sent_in (place_at stays.new c)))) }
+        ensures asks { (life_of stays.old).asks ≤ (life_of stays.new).asks + 3 }
+    {
+        if stays.pushed(c) < self.span {
+            return pass;
+        }
+        let settled = self.settle(alloc, pass, stays);
+        let closed = close_at(self.squeue, self.rt, alloc, settled, stays, c);
+        open_at(self.squeue, self.rt, alloc, closed, stays, c)
+    }
+
+    // Pushes an item at a place that has a number for its feed, once there is room for it.
+    fn push(&self, pass: &Pass, stays: &mut Stays<X::Item, X::State>, c: u32, item: X::Item)
+        requires knows { Knows IsFirst (Tells X.step) limits_of self.now.squeue.now (origin_of self.now.squeue.now.given.first) pass.now stays.old }
+        requires open { (stay : Stay X.Item) × (place_at stays.old c ≡ Some (Open stay)) × (pushed_of stay < most_feeds) }
+        ensures knows { Knows IsFirst (Tells X.step) limits_of self.now.squeue.now (origin_of self.now.squeue.now.given.first) pass.now stays.new }
+        ensures pushed { (items : List X.Item) (times : ℕ) → Serves (setting_of limits_of self.now.squeue.now.given) pass.now stays.old c items times
+            → Serves (setting_of limits_of self.now.squeue.now.given) pass.now stays.new c (items ++ item ∷ []) times }
+        ensures others { KeepsBut c stays.old stays.new }
         ensures asks { (life_of stays.new).asks ≡ (life_of stays.old).asks }
     {
         let mut item = item;
         'tries: for _ in self.rt.forever() {
-            if stays.pushed(c) == u32::MAX {
-                return Err(item);
-            }
             match push_at(self.squeue, pass, stays, c, item) {
-                Ok(()) => return Ok(()),
+                Ok(()) => return,
                 Err(back) => item = back,
             }
             thread::yield_now();

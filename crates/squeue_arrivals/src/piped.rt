@@ -1,6 +1,5 @@
 //! A ring as a source: another thread pushes items into it, each with its key.
 ghost use Rattle.rtrb.specs.Ring.{received};
-ghost use Rattle.squeue_arrivals.specs.Told.{told};
 
 use crate::source::{Arrival, Arrivals};
 use rtrb::Consumer;

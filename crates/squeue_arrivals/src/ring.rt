@@ -19,6 +19,7 @@ ghost use Rattle.squeue_arrivals.specs.Keeping.{AreClosed, HasAll, HasKeys};
 ghost use Rattle.squeue_arrivals.specs.Pooling.{IsInRange};
 ghost use Rattle.squeue_arrivals.specs.Placed.{SameRing, keys_in, most_in, place_of};
 ghost use Rattle.squeue_arrivals.specs.Tasks.{HasDone, IsReady, KnowsPass, MayRun, MayServe, Ran};
+ghost use Rattle.squeue_arrivals.specs.Watching.{HasWatched};
 ghost use Rattle.squeue_arrivals.specs.declared.ring.RingTask.{RingTask};
 
 use crate::keys::arrive;
@@ -29,6 +30,7 @@ use crate::seating::KeyParts;
 use crate::served::{Cause, KeyPart, Refused, ServedSource};
 use crate::source::{Arrival, Arrivals};
 use crate::steps::KeySteps;
+use crate::watching::{Watched, Watches, watch};
 use perimeter_core::{Known, NoHook, Resident};
 use squeue_drain::worker;
 use squeue_serve::{Job, put_pass, run_each, take_pass};
@@ -41,7 +43,7 @@ use std::thread::Threads;
 use stream_stays::{Place, Stays, Vacant, close_at};
 
 // So many items a ring serves.
-const LIFE: u64 = 1 << 50;
+const LIFE: u64 = 1 << 49;
 
 /// What a ring has before it serves: its source, the places of its pass, which keys are at them, and room for what is handed back.
 #[derive(Drop)]
@@ -52,11 +54,14 @@ pub(crate) struct Ring<T: Drop, S: Drop, A: Drop> {
     pub(crate) room: Vec<KeyPart<S>>,
 }
 
-/// What a pass is used for: to serve a source, or to work the squeue to its end. `Served` is what is left of a source.
+/// What a pass is used for: to serve a source, to look, or to work the squeue to its end. `Served` is what is left of a source, and `Watched`
+/// of who looked.
 #[derive(Drop)]
-pub(crate) enum RingTask<T: Drop, S: Drop, A: Drop> {
+pub(crate) enum RingTask<T: Drop, S: Drop, A: Drop, Z: Drop> {
     Serve(Ring<T, S, A>),
     Served(ServedSource<A, T, S>),
+    Watch,
+    Watched(Watched<Z>),
     Work,
 }
 
@@ -64,6 +69,7 @@ pub(crate) enum RingTask<T: Drop, S: Drop, A: Drop> {
 pub(crate) fn run_rings<
     X: KeySteps + Drop + Send + Sync,
     A: Arrivals<Item = X::Item> + Drop + Send,
+    V: Watches<X::Item, X::State> + Sync,
     H: Wait + Drop + Sync + Send,
     W: Threads + Wait + Sync,
 >(
@@ -71,68 +77,98 @@ pub(crate) fn run_rings<
     sq: &Squeue<KeyParts<X, H>>,
     alloc: Global,
     pool: &ArrivalPool,
-    jobs: &mut [Job<RingTask<X::Item, X::State, A>>],
+    watcher: &V,
+    jobs: &mut [Job<RingTask<X::Item, X::State, A, V::Seen>>],
 )
 where
     X::Item: Send,
     X::State: Send,
+    V::Seen: Send,
     requires pool { IsInRange pool.now }
     requires jobs { All (IsReady (Tells X.step) sq.now pool.now.places) jobs.old }
     requires begun { AreBegun X.begins (origin_of sq.now.given.first) }
-    ensures { (k : ℕ) (d : Job (RingTask X.Item X.State A)) → k < length jobs.old
-        → Ran limits_of sq.now (IsServedAt X.begins X.step A.origin A.given A.is_over (work_of (origin_of sq.now.given.first)) pool.now.places (setting_of limits_of sq.now.given)) (slice_index_or jobs.old k d) (slice_index_or jobs.new k d) }
+    ensures { (k : ℕ) (d : Job (RingTask X.Item X.State A V.Seen)) → k < length jobs.old
+        → Ran limits_of sq.now (IsServedAt X.begins X.step A.origin A.given A.is_over (work_of (origin_of sq.now.given.first)) pool.now.places
+        (setting_of limits_of sq.now.given))
+        (HasWatched X.begins X.step (work_of (origin_of sq.now.given.first)) (V.says watcher.now) (setting_of limits_of sq.now.given) (V.many watcher.now))
+        (slice_index_or jobs.old k d) (slice_index_or jobs.new k d) }
 {
     run_each(
         rt,
         jobs,
-        &|_, job: &mut Job<RingTask<X::Item, X::State, A>>|
+        &|_, job: &mut Job<RingTask<X::Item, X::State, A, V::Seen>>|
             requires pool { IsInRange pool.now }
             requires job { IsReady (Tells X.step) sq.now pool.now.places job.now }
             requires begun { AreBegun X.begins (origin_of sq.now.given.first) }
             ensures { Ran limits_of sq.entry.now (IsServedAt X.begins X.step A.origin A.given A.is_over (work_of (origin_of sq.entry.now.given.first))
-                pool.entry.now.places (setting_of limits_of sq.entry.now.given)) job.entry.now job.exit.now }
-        { run_job(rt, sq, alloc, pool, job) },
+                pool.entry.now.places (setting_of limits_of sq.entry.now.given))
+                (HasWatched X.begins X.step (work_of (origin_of sq.entry.now.given.first)) (V.says watcher.entry.now) (setting_of limits_of sq.entry.now.given) (V.many watcher.entry.now))
+                job.entry.now job.exit.now }
+        { run_job(rt, sq, alloc, pool, watcher, job) },
     );
 }
 
-fn run_job<X: KeySteps + Drop, A: Arrivals<Item = X::Item> + Drop, H: Wait + Drop, W: Wait>(
+fn run_job<
+    X: KeySteps + Drop,
+    A: Arrivals<Item = X::Item> + Drop,
+    V: Watches<X::Item, X::State>,
+    H: Wait + Drop,
+    W: Wait,
+>(
     rt: &W,
     sq: &Squeue<KeyParts<X, H>>,
     alloc: Global,
     pool: &ArrivalPool,
-    job: &mut Job<RingTask<X::Item, X::State, A>>,
+    watcher: &V,
+    job: &mut Job<RingTask<X::Item, X::State, A, V::Seen>>,
 )
     requires pool { IsInRange pool.now }
     requires job { IsReady (Tells X.step) sq.now pool.now.places job.old }
     requires begun { AreBegun X.begins (origin_of sq.now.given.first) }
-    ensures { Ran limits_of sq.now (IsServedAt X.begins X.step A.origin A.given A.is_over (work_of (origin_of sq.now.given.first)) pool.now.places (setting_of limits_of sq.now.given)) job.old job.new }
+    ensures { Ran limits_of sq.now (IsServedAt X.begins X.step A.origin A.given A.is_over (work_of (origin_of sq.now.given.first)) pool.now.places (setting_of limits_of sq.now.given))
+        (HasWatched X.begins X.step (work_of (origin_of sq.now.given.first)) (V.says watcher.now) (setting_of limits_of sq.now.given) (V.many watcher.now)) job.old job.new }
 {
     let pass = take_pass(&mut job.places[0]);
-    let pass = run_pass(rt, sq, alloc, pool, pass, &mut job.task);
+    let pass = run_pass(rt, sq, alloc, pool, watcher, pass, &mut job.task);
     put_pass(&mut job.places[0], pass);
 }
 
-fn run_pass<X: KeySteps + Drop, A: Arrivals<Item = X::Item> + Drop, H: Wait + Drop, W: Wait>(
+fn run_pass<
+    X: KeySteps + Drop,
+    A: Arrivals<Item = X::Item> + Drop,
+    V: Watches<X::Item, X::State>,
+    H: Wait + Drop,
+    W: Wait,
+>(
     rt: &W,
     sq: &Squeue<KeyParts<X, H>>,
     alloc: Global,
     pool: &ArrivalPool,
+    watcher: &V,
     pass: Pass,
-    task: &mut RingTask<X::Item, X::State, A>,
+    task: &mut RingTask<X::Item, X::State, A, V::Seen>,
 ) -> Pass
     requires pool { IsInRange pool.now }
     requires may { MayRun (Tells X.step) sq.now pool.now.places task.old pass }
     requires begun { AreBegun X.begins (origin_of sq.now.given.first) }
     ensures ended { MayEnd limits_of (number pass) sq.now result }
-    ensures done { HasDone (IsServedAt X.begins X.step A.origin A.given A.is_over (work_of (origin_of sq.now.given.first)) pool.now.places (setting_of limits_of sq.now.given)) task.old task.new }
+    ensures done { HasDone (IsServedAt X.begins X.step A.origin A.given A.is_over (work_of (origin_of sq.now.given.first)) pool.now.places (setting_of limits_of sq.now.given))
+        (HasWatched X.begins X.step (work_of (origin_of sq.now.given.first)) (V.says watcher.now) (setting_of limits_of sq.now.given) (V.many watcher.now)) task.old task.new }
     ensures knows { KnowsPass task.new (Some result) }
 {
-    let RingTask::Serve(ring) = replace(task, RingTask::Work) else {
-        return work(rt, sq, alloc, pass);
-    };
-    let (pass, served) = serve_ring(rt, sq, alloc, pool, pass, ring);
-    *task = RingTask::Served(served);
-    pass
+    match replace(task, RingTask::Work) {
+        RingTask::Serve(ring) => {
+            let (pass, served) = serve_ring(rt, sq, alloc, pool, pass, ring);
+            *task = RingTask::Served(served);
+            pass
+        }
+        RingTask::Watch => {
+            let (pass, watched) = watch(rt, sq, alloc, pass, watcher);
+            *task = RingTask::Watched(watched);
+            pass
+        }
+        _ => work(rt, sq, alloc, pass),
+    }
 }
 
 // Works until all is over.
@@ -170,6 +206,7 @@ fn serve_ring<X: KeySteps + Drop, A: Arrivals<Item = X::Item> + Drop, H: Wait + 
         rt,
         squeue: sq,
         pace: pace_of(pool),
+        span: pool.span,
     };
     let (pass, refused) = serve_all(&line, alloc, pass, &mut source, &mut stays, &mut keys);
     let pass = close_keys(&line, alloc, pass, &mut stays, &keys);

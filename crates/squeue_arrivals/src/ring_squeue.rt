@@ -1,6 +1,6 @@
 //! The sources of one squeue, from its making to its end.
 
-ghost use Rattle.std.specs.Prelude.{◌≡◌, ◌<◌, ◌≤◌, ◌+◌, ◌*◌, ◌^◌, ◌++◌, ◌∷◌, ℕ, List, [], All, IfOk, Some, length, slice_get, vec_capacity};
+ghost use Rattle.std.specs.Prelude.{◌≡◌, ◌<◌, ◌≤◌, ◌+◌, ◌*◌, ◌^◌, ◌++◌, ◌∷◌, ℕ, List, [], All, IfOk, IfSome, Some, length, slice_get, vec_capacity};
 ghost use Rattle.turn_gate.specs.History.{Begins};
 ghost use Rattle.turn_gate.specs.Passes.{AreFresh, number, seen};
 ghost use Rattle.placed_parts.specs.Placing.{limits_of, origin_of};
@@ -13,11 +13,13 @@ ghost use Rattle.squeue_streams.specs.declared.streams.Stream.{Stream};
 ghost use Rattle.squeue_arrivals.specs.Arriving.{IsServedAt, IsServedIn};
 ghost use Rattle.squeue_arrivals.specs.Keyed.{AreBegun, first_of, work_of};
 ghost use Rattle.squeue_arrivals.specs.Pooling.{IsInRange};
-ghost use Rattle.squeue_arrivals.specs.Seating.{AreNewPlaces, ServesPlaces};
-ghost use Rattle.squeue_arrivals.specs.Tasks.{AreDone, AreNewRings, AreNewTasks, ended_of, tasks_for};
+ghost use Rattle.squeue_arrivals.specs.Seating.{AreNewPlaces, ServesPlaces, lookers_of};
+ghost use Rattle.squeue_arrivals.specs.Tasks.{AreDone, AreNewRings, AreNewTasks, ended_of, tasks_for, watched_in, watched_of};
+ghost use Rattle.squeue_arrivals.specs.Watching.{HasWatched, SawLast, WasWatched};
 ghost use Rattle.squeue_arrivals.specs.declared.ring.RingTask.{RingTask};
-ghost use Rattle.squeue_arrivals.specs.declared.ring.RingTask.TheVariants.{Served};
+ghost use Rattle.squeue_arrivals.specs.declared.ring.RingTask.TheVariants.{Served, Watched as Watched'};
 ghost use Rattle.squeue_arrivals.specs.declared.served.ServedSource.{ServedSource};
+ghost use Rattle.squeue_arrivals.specs.declared.watching.Watched.{Watched};
 
 use crate::pool::ArrivalPool;
 use crate::ring::{Ring, RingTask, run_rings};
@@ -26,6 +28,7 @@ use crate::seating::{KeyParts, at_once, new_pairs, new_places, new_squeue, no_pa
 use crate::served::ServedSource;
 use crate::source::Arrivals;
 use crate::steps::{KeySteps, Keyed};
+use crate::watching::{Watched, WatchedEnd, Watches};
 use squeue_serve::{Job, Squeues, discard, end_last, jobs_of, lend};
 use squeue_state::{Ended, Pass, Squeue};
 use std::alloc::{AllocError, Global};
@@ -33,46 +36,69 @@ use std::sync::Wait;
 use std::thread::Threads;
 use stream_stays::Place;
 
-/// Serves these sources by one squeue, with a ring for each, until all are served. It fails only for want of memory before it begins.
+/// Serves these sources by one squeue of this number, with a ring for each, until all are served. Where it is watched, the watcher looks at it.
+/// It fails only for want of memory before it begins.
 pub(crate) fn serve_squeue<
     X: KeySteps + Copy + Send + Sync,
     A: Arrivals<Item = X::Item> + Drop + Send,
+    V: Watches<X::Item, X::State> + Sync,
     W: Threads + Wait + Sync,
 >(
     rt: &W,
     alloc: Global,
     pool: &ArrivalPool,
+    number: u32,
     steps: X,
+    watcher: &V,
+    watched: bool,
     sources: Vec<A>,
-) -> Result<(Vec<ServedSource<A, X::Item, X::State>>, Ended), AllocError>
+) -> Result<(Vec<ServedSource<A, X::Item, X::State>>, WatchedEnd<V::Seen>), AllocError>
 where
     X::Item: Send,
     X::State: Send,
+    V::Seen: Send,
     requires pool { IsInRange pool.now }
-    requires sources { (1 ≤ length sources.items) × (length sources.items ≤ 63) }
-    ensures { IfOk result (λ r. AllBecameFrom (IsServedIn X.begins X.step A.origin A.given A.is_over steps pool.now.places r.1) 0 sources.items r.0.items) }
+    requires sources { (1 ≤ length sources.items) × (length sources.items + lookers_of watched ≤ 63) }
+    ensures served { IfOk result (λ r. AllBecameFrom (IsServedIn X.begins X.step A.origin A.given A.is_over steps pool.now.places r.1.end) 0 sources.items r.0.items) }
+    ensures watched { IfOk result (λ r. WasWatched X.begins X.step steps (V.says watcher.now) (V.many watcher.now) watched r.1) }
 {
     let count = sources.len() as u32;
     let all = places_of(pool, count)?;
-    let room = Vec::with_capacity(alloc, sources.len() + 1)?;
+    let room = Vec::with_capacity(alloc, sources.len() + 2)?;
     let (keyed, rings) = new_rings(alloc, pool, steps, sources)?;
     let parts = no_parts(alloc, rt, all, keyed)?;
-    let tasks = tasks_of(alloc, rings)?;
+    let tasks = tasks_of(alloc, rings, watched)?;
     let jobs = jobs_of(alloc, tasks, 1)?;
     let Ok(squeues) = Squeues::with_room(alloc, 1) else {
         discard(jobs);
         return Err(AllocError);
     };
-    match new_squeue(alloc, count, pool.room, parts) {
+    match new_squeue(alloc, number, count, watched, pool.room, parts) {
         Ok((squeue, passes)) => {
-            let (jobs, end) = run_to_end(rt, alloc, pool, squeue, passes, jobs, squeues);
-            Ok((gather(jobs, room), end))
+            let (jobs, end) = run_to_end(rt, alloc, pool, watcher, squeue, passes, jobs, squeues);
+            let (served, watched) = gather(jobs, room);
+            Ok((served, watched_end(end, watched)))
         }
         Err(error) => {
             discard(jobs);
             squeues.destroy_empty();
             Err(error)
         }
+    }
+}
+
+// What is left of a squeue, and of who looked at it, where somebody did.
+fn watched_end<Z: Drop>(end: Ended, watched: Option<Watched<Z>>) -> WatchedEnd<Z>
+    ensures end { result.end ≡ end }
+    ensures last { IfSome watched (λ w. result.last ≡ w.last) }
+{
+    match watched {
+        Some(Watched { last, told, .. }) => WatchedEnd { end, last, told },
+        None => WatchedEnd {
+            end,
+            last: None,
+            told: true,
+        },
     }
 }
 
@@ -139,47 +165,54 @@ fn deal_places<T: Drop, S: Drop, A: Drop>(
     Ok(rings)
 }
 
-// The tasks of the passes: each ring serves its source, and the last pass works.
-fn tasks_of<T: Drop, S: Drop, A: Drop>(
+// The tasks of the passes: each ring serves its source, the next pass looks, where it is watched, and the last one works.
+fn tasks_of<T: Drop, S: Drop, A: Drop, Z: Drop>(
     alloc: Global,
     rings: Vec<Ring<T, S, A>>,
-) -> Result<Vec<RingTask<T, S, A>>, AllocError>
-    ensures { IfOk result (λ v. v.items ≡ tasks_for rings.items) }
+    watched: bool,
+) -> Result<Vec<RingTask<T, S, A, Z>>, AllocError>
+    ensures { IfOk result (λ v. v.items ≡ tasks_for (lookers_of watched) rings.items) }
 {
     let mut rings = rings;
-    let mut tasks = Vec::with_capacity(alloc, rings.len() + 1)?;
+    let mut tasks = Vec::with_capacity(alloc, rings.len() + 2)?;
     rings.reverse();
     'rings: while let Some(ring) = rings.pop() {
         tasks.push_reserved(RingTask::Serve(ring));
+    }
+    if watched {
+        tasks.push_reserved(RingTask::Watch);
     }
     tasks.push_reserved(RingTask::Work);
     Ok(tasks)
 }
 
 // Lends a new squeue to the jobs, has them done, and ends it: the jobs, which hold no pass any more, and the squeue's end. Each ring's pass has
-// seen a beginning of its history.
+// seen a beginning of its history, and so has that of who looked.
 fn run_to_end<
     X: KeySteps + Drop + Send + Sync,
     A: Arrivals<Item = X::Item> + Drop + Send,
+    V: Watches<X::Item, X::State> + Sync,
     H: Wait + Drop + Sync + Send,
     W: Threads + Wait + Sync,
 >(
     rt: &W,
     alloc: Global,
     pool: &ArrivalPool,
+    watcher: &V,
     squeue: Squeue<KeyParts<X, H>>,
     passes: Vec<Pass>,
-    jobs: Vec<Job<RingTask<X::Item, X::State, A>>>,
+    jobs: Vec<Job<RingTask<X::Item, X::State, A, V::Seen>>>,
     squeues: Squeues<KeyParts<X, H>>,
-) -> (Vec<Job<RingTask<X::Item, X::State, A>>>, Ended)
+) -> (Vec<Job<RingTask<X::Item, X::State, A, V::Seen>>>, Ended)
 where
     X::Item: Send,
     X::State: Send,
+    V::Seen: Send,
     requires pool { IsInRange pool.now }
-    requires squeue { ServesPlaces limits_of squeue.given (length squeue.given.quotas) (length (first_of (origin_of squeue.given.first))) }
+    requires squeue { ServesPlaces limits_of squeue.given squeue.given.rings (length (first_of (origin_of squeue.given.first))) }
     requires begun { AreBegun X.begins (origin_of squeue.given.first) }
     requires passes { (length passes.items ≡ length squeue.given.quotas + 1) × AreFresh number_of squeue.gate 0 passes.items }
-    requires tasks { AreNewTasks (length squeue.given.quotas) pool.now.places (first_of (origin_of squeue.given.first)) (tasks_in jobs.items) }
+    requires tasks { AreNewTasks squeue.given.rings (length squeue.given.quotas) pool.now.places (first_of (origin_of squeue.given.first)) (tasks_in jobs.items) }
     requires jobs { All (λ j. j.places.items ≡ []) jobs.items × HaveRoom 1 jobs.items }
     requires squeues { (squeues.all.items ≡ []) × (squeues.rooms.items ≡ []) × (1 ≤ vec_capacity squeues.all) × (1 ≤ vec_capacity squeues.rooms) }
     ensures empty { All (λ j. j.places.items ≡ []) result.0.items }
@@ -187,14 +220,17 @@ where
     ensures ended { HasEnded result.1 }
     ensures seen { (k : ℕ) (d : ServedSource A X.Item X.State) → slice_get (tasks_in result.0.items) k ≡ Some (Served d)
         → (number d.pass.value ≡ k) × Begins (seen d.pass.value) result.1.history }
+    ensures watched { (k : ℕ) (w : Watched V.Seen) → slice_get (tasks_in result.0.items) k ≡ Some (Watched' w)
+        → SawLast X.begins X.step (work_of (origin_of squeue.given.first)) (V.says watcher.now) result.1.setting k (V.many watcher.now) result.1.history w.last }
     ensures done { AreDone (IsServedAt X.begins X.step A.origin A.given A.is_over (work_of (origin_of squeue.given.first)) pool.now.places
-        (setting_of limits_of squeue.given)) (tasks_in jobs.items) (tasks_in result.0.items) }
+        (setting_of limits_of squeue.given)) (HasWatched X.begins X.step (work_of (origin_of squeue.given.first)) (V.says watcher.now) (setting_of limits_of squeue.given)
+        (V.many watcher.now)) (tasks_in jobs.items) (tasks_in result.0.items) }
 {
     let mut jobs = jobs;
     let mut squeues = squeues;
     let count = jobs.len() - 1;
     lend(&mut squeues, &mut jobs, 0, count, squeue, passes);
-    run_rings(rt, &squeues.all[0], alloc, pool, &mut jobs);
+    run_rings(rt, &squeues.all[0], alloc, pool, watcher, &mut jobs);
     let Some((_parts, end, _trace)) = end_last(&mut squeues, &mut jobs, 0, count) else {
         unreachable!()
     };
@@ -202,39 +238,49 @@ where
     (jobs, end)
 }
 
-// Takes apart jobs that hold no pass: what is left of each source, by number.
-fn gather<T: Drop, S: Drop, A: Drop>(
-    jobs: Vec<Job<RingTask<T, S, A>>>,
+// Takes apart jobs that hold no pass: what is left of each source, by number, and of who looked.
+fn gather<T: Drop, S: Drop, A: Drop, Z: Drop>(
+    jobs: Vec<Job<RingTask<T, S, A, Z>>>,
     room: Vec<ServedSource<A, T, S>>,
-) -> Vec<ServedSource<A, T, S>>
+) -> (Vec<ServedSource<A, T, S>>, Option<Watched<Z>>)
     requires empty { All (λ j. j.places.items ≡ []) jobs.items }
     requires room { (room.items ≡ []) × (length jobs.items ≤ vec_capacity room) }
-    ensures { result.items ≡ ended_of (tasks_in jobs.items) }
+    ensures served { result.0.items ≡ ended_of (tasks_in jobs.items) }
+    ensures watched { result.1 ≡ watched_in (tasks_in jobs.items) }
 {
     let mut jobs = jobs;
     let mut left = room;
+    let mut watched = None;
     'jobs: while let Some(job) = jobs.pop() {
         let Job { task, places } = job;
         places.destroy_empty();
-        push_ended(&mut left, task);
+        watched = add_ended(&mut left, watched, task);
     }
     jobs.destroy_empty();
     left.reverse();
-    left
+    (left, watched)
 }
 
-// Puts what is left of the source of a task, where it is one's, behind the others.
-fn push_ended<T: Drop, S: Drop, A: Drop>(
+// Puts what is left of the source of a task, where it is one's, behind the others. Answers what is left of who looked: what the task has, or
+// what was there before.
+fn add_ended<T: Drop, S: Drop, A: Drop, Z: Drop>(
     left: &mut Vec<ServedSource<A, T, S>>,
-    task: RingTask<T, S, A>,
-)
+    watched: Option<Watched<Z>>,
+    task: RingTask<T, S, A, Z>,
+) -> Option<Watched<Z>>
     requires { length left.old.items < vec_capacity left.old }
     ensures left { left.new.items ≡ left.old.items ++ ended_of (task ∷ []) }
     ensures room { vec_capacity left.new ≡ vec_capacity left.old }
+    ensures watched { result ≡ watched_of task watched }
 {
     match task {
-        RingTask::Served(ended) => left.push_reserved(ended),
-        RingTask::Serve(_) => {}
-        RingTask::Work => {}
+        RingTask::Served(ended) => {
+            left.push_reserved(ended);
+            watched
+        }
+        RingTask::Watched(now) => Some(now),
+        RingTask::Serve(_) => watched,
+        RingTask::Watch => watched,
+        RingTask::Work => watched,
     }
 }

@@ -4,14 +4,14 @@
 //! both ends of which lie at it as long as its part is at no squeue. Each ring gets all places of the squeue, by number, of which those of
 //! other rings are out; and its pass has a life that no run uses up.
 
-ghost use Rattle.std.specs.Prelude.{◌≡◌, ◌≢◌, ◌+◌, ◌*◌, ◌%◌, ◌<◌, ◌≤◌, ◌^◌, ℕ, Some, All, IfOk, length, replicate, slice_get};
+ghost use Rattle.std.specs.Prelude.{◌≡◌, ◌≢◌, ◌+◌, ◌%◌, ◌<◌, ◌≤◌, ◌^◌, ℕ, Some, All, IfOk, length, replicate, slice_get};
 ghost use Rattle.turn_gate.specs.Passes.{AreFresh};
 ghost use Rattle.histories.specs.Elements.{number_of};
 ghost use Rattle.placed_parts.specs.Placing.{Stands, limits_of, origin_of, size_of};
 ghost use Rattle.placed_parts.specs.Standing.{all_new};
 ghost use Rattle.squeue_state.specs.Behind.{ever};
 ghost use Rattle.squeue_streams.specs.Taking.{most_feeds, most_leaves, state_of};
-ghost use Rattle.squeue_arrivals.specs.Seating.{AreNewPairs, AreNewPlaces, AreOwnStays, ServesPlaces, lives_of};
+ghost use Rattle.squeue_arrivals.specs.Seating.{AreNewPairs, AreNewPlaces, AreOwnStays, ServesPlaces, lives_of, lookers_of};
 
 use crate::pool::ArrivalPool;
 use crate::steps::{KeySteps, Keyed};
@@ -44,6 +44,12 @@ const LEAVES: u64 = 1 << 52;
 const LIFE: Life = Life {
     feeds: 1 << 52,
     asks: 1 << 52,
+};
+
+// The same of the pass of who looks.
+const LOOKS: Life = Life {
+    feeds: 0,
+    asks: 1 << 32,
 };
 
 /// The two ends of so many places' rings: those that push, and the parts, by number, in which no key was yet. Fails only for want of
@@ -170,34 +176,40 @@ pub(crate) fn no_parts<'a, X: KeySteps + Drop, W: Wait>(
     Places::make_where(alloc, shared, &none)
 }
 
-// The lives of the rings' passes.
-fn lives(alloc: Global, rings: u32) -> Result<Vec<Life>, AllocError>
-    ensures { IfOk result (λ v. ever v.items ≡ lives_of rings) }
+// The lives of the passes: those of the rings, and where it is watched that of who looks.
+fn lives(alloc: Global, rings: u32, watched: bool) -> Result<Vec<Life>, AllocError>
+    ensures { IfOk result (λ v. ever v.items ≡ lives_of rings (lookers_of watched)) }
 {
-    let mut lives = Vec::with_capacity(alloc, rings as usize)?;
+    let mut lives = Vec::with_capacity(alloc, rings as usize + 1)?;
     for _k in 0..rings {
         lives.push_reserved(LIFE);
+    }
+    if watched {
+        lives.push_reserved(LOOKS);
     }
     Ok(lives)
 }
 
-/// A squeue of these places with so many rings, and its passes: those of the rings, by number, and the worker's. Fails only for want of
-/// memory.
+/// A squeue of this number, of these places, with so many rings, and its passes: those of the rings, by number, that of who looks, where it is
+/// watched, and the worker's. Fails only for want of memory.
 pub(crate) fn new_squeue<R: Resident + Drop>(
     alloc: Global,
+    number: u32,
     rings: u32,
+    watched: bool,
     room: u32,
     parts: R,
 ) -> Result<(Squeue<R>, Vec<Pass>), AllocError>
-    requires rings { (1 ≤ rings) × (rings ≤ 63) }
+    requires rings { (1 ≤ rings) × (rings + lookers_of watched ≤ 63) }
     requires room { (1 ≤ room) × (room ≤ 2 ^ 30) }
     requires new { R.stands parts (all_new 0) }
     requires feeds { (R.limits parts).feeds ≡ replicate (R.size parts) most_feeds }
     requires leaves { (R.limits parts).leaves ≡ replicate (R.size parts) most_leaves }
     ensures serves { IfOk result (λ r. ServesPlaces R.limits r.0.given rings (R.size parts)) }
+    ensures lives { IfOk result (λ r. r.0.given.quotas ≡ lives_of rings (lookers_of watched)) }
     ensures first { IfOk result (λ r. r.0.given.first ≡ parts) }
     ensures passes { IfOk result (λ r. (length r.1.items ≡ length r.0.given.quotas + 1) × AreFresh number_of r.0.gate 0 r.1.items) }
 {
-    let all = lives(alloc, rings)?;
-    Squeue::make_bounded(alloc, 0, parts, rings, &all, room)
+    let all = lives(alloc, rings, watched)?;
+    Squeue::make_bounded(alloc, number, parts, rings, &all, room)
 }

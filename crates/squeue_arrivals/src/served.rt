@@ -1,5 +1,6 @@
 //! What is handed back of each source when its ring is done, and of the squeues.
 
+use crate::watching::WatchedEnd;
 use perimeter_core::Known;
 use squeue_state::{Ended, Pass};
 
@@ -10,12 +11,11 @@ pub struct KeyPart<S> {
     pub state: S,
 }
 
-/// Why an item was refused: its ring has no place left for another key; its key has had as many items as a place takes, which are
-/// 2^32 - 1; or the source has given as many items as a ring serves, which are 2^50.
+/// Why an item was refused: its ring has no place left for another key, or the source has given as many items as a ring serves, which are
+/// 2^49.
 #[derive(Clone, Copy)]
 pub enum Cause {
     NoPlace,
-    KeyIsFull,
     LifeIsOver,
 }
 
@@ -44,4 +44,11 @@ pub struct ServedSource<A, T, S> {
 pub struct Arrived<A, T, S> {
     pub sources: Vec<ServedSource<A, T, S>>,
     pub squeues: Vec<Ended>,
+}
+
+/// The same of squeues that were watched.
+#[derive(Drop)]
+pub struct WatchedArrived<A, T, S, Z> {
+    pub sources: Vec<ServedSource<A, T, S>>,
+    pub squeues: Vec<WatchedEnd<Z>>,
 }

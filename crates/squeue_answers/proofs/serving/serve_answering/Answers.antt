@@ -1,4 +1,5 @@
-use Rattle.std.proofs.Common.{◌≡◌, arith, length}
+use Rattle.std.proofs.Common.{◌≡◌, ◌∙◌, ap, arith, length, min}
+use Rattle.std.proofs.lemmas.List.{length-map}
 use Rattle.squeue_answers.specs.Serving.{WasServed}
 use Rattle.squeue_answers.proofs.AllServed.{all_answered, groups_answered, were_served}
 use Rattle.squeue_answers.proofs.Became.{became_many, each_left}
@@ -37,3 +38,9 @@ returns-clause-histories g c =
     groups_answered (λ w. w.steps) g.X.KeyAnswers.begins g.X.KeyAnswers.step g.A.Arrivals.origin g.A.Arrivals.given g.A.Arrivals.is_over g.K.Sink.got _ c.args.pool.now.places c.args.sources.items
     c.in_ok-asking.asking.items c.in_ok-arrived.arrived.sources.items c.in_ok-asking.ensures c.in_ok-arrived.arrived.squeues.items c.finish_all-sources.result.items c.in_ok-arrived.ensures.histories
     c.finish_all-sources.ensures
+
+-- one asks for each source
+pub returns-clause-squeues : goal.returns-clause-squeues
+returns-clause-squeues g c =
+    let asking = ap length c.in_ok-asking.ensures ∙ length-map c.args.sources.items _ in
+    c.in_ok-arrived.ensures.squeues ∙ ap (min c.args.pool.now.squeues) asking

@@ -14,7 +14,9 @@ loop-i-init g c = record {
   same_pass = c.settle-pass.ensures.number;
   asks = omega (arith, c.settle-pass.ensures.asks, c.requires.asks);
   each = λ all has.
-      closing_first (Tells g.X.KeySteps.step) limits_of c.args.line.now.squeue.now (origin_of c.args.line.now.squeue.now.given.first) all c.args.pass c.settle-pass.result c.args.stays.now c.settle-pass.new.stays c.args.keys.now has c.settle-pass.ensures.keeps;
+      let e = c.settle-pass.ensures in
+      closing_first (Tells g.X.KeySteps.step) limits_of c.args.line.now.squeue.now (origin_of c.args.line.now.squeue.now.given.first) all c.args.pass c.settle-pass.result c.args.stays.now c.settle-pass.new.stays c.args.keys.now has
+      e.settled.knows e.number e.grows e.keeps;
 }
 
 pub close_at-pass-requires-clause-knows : goal.close_at-pass-requires-clause-knows
@@ -27,8 +29,8 @@ close_at-pass-requires-clause-open g c =
     let le : i ≤ i = omega arith in
     let at = some_at (keys_in c.args.keys.now) i lt in
     let w = c.requires.keys in
-    let o = ((c.loop-i.invariant.each w.0 w.1).opens i at.0 le at.1).0 in
-    subst (IsOpen c.loop-i.stays) (sym c.place.ensures) (o.0, o.1)
+    let o = (c.loop-i.invariant.each w.0 w.1).opens i at.0 le at.1 in
+    subst (IsOpen c.loop-i.stays) (sym c.place.ensures) (o.stay, o.is_open)
 
 pub close_at-pass-requires-clause-asks : goal.close_at-pass-requires-clause-asks
 close_at-pass-requires-clause-asks g c =

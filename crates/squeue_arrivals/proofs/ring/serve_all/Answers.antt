@@ -44,7 +44,7 @@ returns-then-left-eq0-clause-given g c =
     i.has (gave_more (given c.args.source.now) i.all (given c.items.source) (given c.next-arrival.new.self) ((c.in-Item.key, c.in-Item.item) ∷ []) i.gave next) (c.next-arrival.ensures.origin ∙ i.same) many
 
 pub arrive-next-requires-clause-keys : goal.arrive-next-requires-clause-keys
-arrive-next-requires-clause-keys g c = (c.items.invariant.all, c.items.invariant.has)
+arrive-next-requires-clause-keys g c = (c.items.invariant.all, c.items.invariant.has, omega (arith, c.items.invariant.counted, c.if-left-eq0.false))
 
 pub arrive-next-requires-clause-asks : goal.arrive-next-requires-clause-asks
 arrive-next-requires-clause-asks g c = omega (arith, c.items.invariant.asks, c.items.invariant.counted)
@@ -97,7 +97,7 @@ items-preserved g c =
     let next = c.next-arrival.ensures.given ∙ (ap (λ a. given c.items.source ++ told a) c.in-NoneYet.is ∙ append-nil (given c.items.source)) in
     record {
       all = i.all;
-      has = (keys_kept (Tells g.X.KeySteps.step) limits_of c.args.line.now.squeue.now (origin_of c.args.line.now.squeue.now.given.first) i.all c.items.pass c.enter_some-pass.result c.items.stays c.enter_some-pass.new.stays c.items.keys i.has.0 e.knows e.keeps, i.has.1);
+      has = (keys_kept (Tells g.X.KeySteps.step) limits_of c.args.line.now.squeue.now (origin_of c.args.line.now.squeue.now.given.first) i.all c.items.pass c.enter_some-pass.result c.items.stays c.enter_some-pass.new.stays c.items.keys i.has.0 e.knows e.number e.grows e.keeps, i.has.1);
       same_pass = e.number ∙ i.same_pass;
       ring = i.ring;
       asks = omega (arith, i.asks, ap (λ (l : Life). l.asks) e.life);

@@ -15,8 +15,8 @@ invariant-items g l =
       has : HasAll (Tells g.X.KeySteps.step) limits_of l.line.squeue.now (origin_of l.line.squeue.now.given.first) all l.pass l.stays l.keys;
       same_pass : number l.pass ≡ number l.fn.pass;
       ring : SameRing l.fn.keys l.keys;
-      asks : 2 ^ 52 ≤ (life_of l.stays).asks + 3 * length all;
-      counted : l.left + length all ≡ 2 ^ 50;
+      asks : 2 ^ 52 ≤ (life_of l.stays).asks + 6 * length all;
+      counted : l.left + length all ≡ 2 ^ 49;
       gave : g.A.Arrivals.given l.source ≡ g.A.Arrivals.given l.fn.source ++ all;
       same : g.A.Arrivals.origin l.source ≡ g.A.Arrivals.origin l.fn.source;
     }

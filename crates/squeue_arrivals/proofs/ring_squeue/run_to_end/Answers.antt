@@ -8,11 +8,14 @@ use Rattle.squeue_state.specs.Naming.{setting_of}
 use Rattle.squeue_arrivals.specs.Arriving.{IsServedAt}
 use Rattle.squeue_arrivals.specs.Keyed.{AreBegun, Tells, work_of}
 use Rattle.squeue_arrivals.specs.Tasks.{IsReady}
-use Rattle.squeue_arrivals.specs.declared.ring.RingTask.TheVariants.{Served}
+use Rattle.squeue_arrivals.specs.Watching.{HasWatched}
+use Rattle.squeue_arrivals.specs.declared.ring.RingTask.TheVariants.{Served, Watched}
 use Rattle.squeue_serve.proofs.Coming.{one_only}
 use Rattle.squeue_arrivals.proofs.RingJobs.{all_ready}
-use Rattle.squeue_arrivals.proofs.RingRun.{CameBack, Lends, are_done, came_back, end_ended, end_setting, is_it, lends, nothing_left, seen_by_end}
-use Rattle.squeue_arrivals.proofs.RingTasks.{none_long}
+use Rattle.squeue_arrivals.proofs.RingRun.{CameBack, Lends, are_done, came_back, end_ended, end_setting, is_it, lends, nothing_left, known_by_end}
+use Rattle.squeue_arrivals.proofs.RingTasks.{has_watched, none_long}
+use Rattle.squeue_arrivals.proofs.Looking.{looked_whole}
+use Rattle.histories.proofs.ListPlaces.{some_at}
 use Rattle.squeue_arrivals.proofs.ring_squeue.run_to_end.Given.{Over}
 use Rattle.squeue_arrivals.proofs.ring_squeue.run_to_end.Goals.{After-deref_mut, After-run_rings}
 use Rattle.squeue_arrivals.proofs.ring_squeue.run_to_end.Goals as goal
@@ -27,17 +30,25 @@ lent g c =
 
 -- each job has done its task
 did : (g : Over) (c : After-run_rings g) → Lends (Tells g.X.KeySteps.step) c.args.pool.now.places c.args.squeue c.deref_mut.result.now c.len-count.result c.lend.new.squeues.all.items
-    → CameBack (IsServedAt g.X.KeySteps.begins g.X.KeySteps.step g.A.Arrivals.origin g.A.Arrivals.given g.A.Arrivals.is_over (work_of (origin_of c.args.squeue.given.first)) c.args.pool.now.places (setting_of limits_of c.args.squeue.given)) c.args.squeue c.len-count.result c.lend.new.squeues.all.items c.deref_mut.result.now
+    → CameBack (IsServedAt g.X.KeySteps.begins g.X.KeySteps.step g.A.Arrivals.origin g.A.Arrivals.given g.A.Arrivals.is_over (work_of (origin_of c.args.squeue.given.first)) c.args.pool.now.places (setting_of limits_of c.args.squeue.given))
+    (HasWatched g.X.KeySteps.begins g.X.KeySteps.step (work_of (origin_of c.args.squeue.given.first)) (g.V.Watches.says c.args.watcher.now) (setting_of limits_of c.args.squeue.given) (g.V.Watches.many c.args.watcher.now)) c.args.squeue c.len-count.result c.lend.new.squeues.all.items c.deref_mut.result.now
     (take c.lend.new.jobs.len (c.run_rings.new.jobs ++ drop (length c.run_rings.new.jobs) c.lend.new.jobs.items)) c.run_rings.new.jobs
 did g c l =
     let jobs = c.lend.new.jobs in
-    came_back (Tells g.X.KeySteps.step) c.args.pool.now.places c.args.squeue (λ s. IsServedAt g.X.KeySteps.begins g.X.KeySteps.step g.A.Arrivals.origin g.A.Arrivals.given g.A.Arrivals.is_over (work_of (origin_of s.given.first)) c.args.pool.now.places (setting_of limits_of s.given)) jobs.items c.run_rings.new.jobs jobs.len c.index.result.now l c.deref_mut.ensures.value jobs.ok.0 (omega (arith, c.run_rings.auto.jobs))
+    came_back (Tells g.X.KeySteps.step) c.args.pool.now.places c.args.squeue (λ s. IsServedAt g.X.KeySteps.begins g.X.KeySteps.step g.A.Arrivals.origin g.A.Arrivals.given g.A.Arrivals.is_over (work_of (origin_of s.given.first)) c.args.pool.now.places (setting_of limits_of s.given))
+    (λ s. HasWatched g.X.KeySteps.begins g.X.KeySteps.step (work_of (origin_of s.given.first)) (g.V.Watches.says c.args.watcher.now) (setting_of limits_of s.given) (g.V.Watches.many c.args.watcher.now)) jobs.items c.run_rings.new.jobs jobs.len c.index.result.now l c.deref_mut.ensures.value jobs.ok.0 (omega (arith, c.run_rings.auto.jobs))
     c.index.ensures c.run_rings.ensures
 
 pub lend-requires-clause-fit : goal.lend-requires-clause-fit
 lend-requires-clause-fit g c p le =
     let e = ap length (lent_none c.args.jobs.items c.requires.jobs.0 (holder 0 (c.len-count.result - 1) (length c.args.squeues.all.items) p)) in
     omega (arith, e)
+
+pub lend-requires-clause-places : goal.lend-requires-clause-places
+lend-requires-clause-places g c k d lt = omega (arith, c.requires.jobs.1 k d lt, ap length c.requires.squeues.0)
+
+pub lend-requires-clause-passes : goal.lend-requires-clause-passes
+lend-requires-clause-passes g c = omega (arith, c.requires.passes.0, c.requires.tasks.count, length-map c.args.jobs.items (λ j. j.task), c.len-count.ensures, c.args.jobs.ok.0)
 
 pub run_rings-requires-clause-jobs : goal.run_rings-requires-clause-jobs
 run_rings-requires-clause-jobs g c κs within k d lt =
@@ -111,7 +122,22 @@ returns-clause-seen g c = λ k d is.
     let known = back.passes k d there in
     let le : k ≤ c.len-count.result - 1 =
     omega (arith, slice_get_within (tasks_in c.run_rings.new.jobs) k (Served d) there, length-map c.run_rings.new.jobs (λ j. j.task), back.many) in
-    (known.1, seen_by_end _ c.args.squeue c.end_last.new.squeues.all.items l.single some.1 some.2 back.ends k d.pass.value le known.0)
+    (known.1, (known_by_end _ c.args.squeue c.end_last.new.squeues.all.items l.single some.1 some.2 back.ends k d.pass.value le known.0).0)
+
+pub returns-clause-watched : goal.returns-clause-watched
+returns-clause-watched g c = λ k w is.
+    let at = goal.at.returns-clause-watched g c in
+    let l = lent g at.After-deref_mut in
+    let some = c.in-Some.ensures.some in
+    let back = did g at.After-run_rings l in
+    let there = ap (λ ts. slice_get ts k) (sym (c.end_last.ensures.tasks ∙ ap tasks_in back.same)) ∙ is in
+    let known = back.watched k w there in
+    let within = slice_get_within (tasks_in c.run_rings.new.jobs) k (Watched w) there in
+    let le : k ≤ c.len-count.result - 1 = omega (arith, within, length-map c.run_rings.new.jobs (λ j. j.task), back.many) in
+    let knows = known_by_end _ c.args.squeue c.end_last.new.squeues.all.items l.single some.1 some.2 back.ends k w.pass.value le known.0 in
+    let task = some_at (tasks_in c.deref_mut.result.now) k (omega (arith, within, back.as_many)) in
+    looked_whole g.X.KeySteps.begins g.X.KeySteps.step (work_of (origin_of c.args.squeue.given.first)) (g.V.Watches.says c.args.watcher.now) (g.V.Watches.many c.args.watcher.now) (setting_of limits_of c.args.squeue.given) _
+    (end_setting _ c.args.squeue c.end_last.new.squeues.all.items l.single some.1 some.2) k _ w.pass.value w.last known.1.is_number known.1.pass.2 knows (has_watched _ _ task.0 w (back.did k task.0 (Watched w) task.1 there))
 
 pub returns-clause-ended : goal.returns-clause-ended
 returns-clause-ended g c =

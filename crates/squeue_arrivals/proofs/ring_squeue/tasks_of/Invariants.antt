@@ -7,7 +7,7 @@ abbrev pub invariant-rings : goal.invariant-rings
 invariant-rings g l =
     record {
       tasks : l.tasks.items ++ map (λ x. Task'.Serve x) (reverse l.rings.items) ≡ map (λ x. Task'.Serve x) l.fn.rings.items;
-      room : vec_len l.tasks + vec_len l.rings + 1 ≤ vec_capacity l.tasks;
+      room : vec_len l.tasks + vec_len l.rings + 2 ≤ vec_capacity l.tasks;
     }
 
 abbrev pub decreases-rings : goal.decreases-rings

@@ -1,4 +1,4 @@
-use Rattle.std.proofs.Common.{◌≡◌, ◌≤◌, replicate, vec_capacity}
+use Rattle.std.proofs.Common.{◌≡◌, ◌+◌, ◌≤◌, length, replicate, vec_capacity}
 use Rattle.squeue_state.specs.Behind.{ever}
 use Rattle.squeue_arrivals.specs.Seating.{one_life}
 use Rattle.squeue_arrivals.proofs.seating.lives.Given as goal
@@ -7,5 +7,6 @@ abbrev pub invariant-loop-k : goal.invariant-loop-k
 invariant-loop-k l =
     record {
       lives : ever l.lives.items ≡ replicate l._k one_life;
-      room : l.rings ≤ vec_capacity l.lives;
+      len : length l.lives.items ≡ l._k;
+      room : l.rings + 1 ≤ vec_capacity l.lives;
     }

@@ -1,6 +1,6 @@
 use Rattle.std.proofs.Common.{◌++◌, ◌∷◌, [], ◌∙◌, ap, sym, append-nil}
 use Rattle.squeue_arrivals.specs.Tasks.{ended_of}
-use Rattle.squeue_arrivals.proofs.ring_squeue.push_ended.Goals as goal
+use Rattle.squeue_arrivals.proofs.ring_squeue.add_ended.Goals as goal
 
 pub returns-in-Served-clause-left : goal.returns-in-Served-clause-left
 returns-in-Served-clause-left g c = c.push_reserved.ensures.items ∙ ap (λ t. c.args.left.now.items ++ ended_of (t ∷ [])) (sym c.in-Served.is)
