@@ -19,14 +19,15 @@ def built(name):
     return str(unproved if unproved.exists() and not proved.exists() else proved)
 
 
-def setting(server, broadcast, places=1024, idle=7200, memory=256 << 20, mtu=1500, ports=None, pings=PINGS):
+def setting(server, broadcast, places=1024, idle=7200, memory=256 << 20, mtu=1500, ports=None, pings=PINGS, host=None):
     """The words that say what a server is started with. Both headers of a segment take 40 bytes. `ports` has the port of each service by
-    its name; without it there are echo at 7 and discard at 9. No word says what is usual, unless another one stands behind it."""
+    its name; without it there are echo at 7 and discard at 9. `host` is whose orders count. No word says what is usual, unless another one stands behind it."""
     words = [server.packed.hex(), broadcast.packed.hex(), str(places), str(idle), str(memory), str(mtu - 40)]
-    if ports is None and pings == PINGS:
-        return words
-    words.append(",".join(f"{name}={port}" for name, port in (ports or USUAL_PORTS).items()))
-    return words if pings == PINGS else [*words, str(pings)]
+    more = [",".join(f"{name}={port}" for name, port in (ports or USUAL_PORTS).items()), str(pings), host and host.packed.hex()]
+    usual = [ports is None, pings == PINGS, host is None]
+    while more and usual.pop():
+        more.pop()
+    return words + more
 
 
 def rings_words(rings, squeues=None, mode="process", budget=64):

@@ -16,6 +16,9 @@
    the kernel leaves open. Of what comes from OUT, segments that follow one another are joined, for the kernel to cut. Where JOIN is 0
    the device has one segment in each datagram, and no head.
 
+   The kernel gives a datagram to one queue. What is for the whole server, as an order of its host, every ring gets: a queue that takes such a
+   datagram posts it to the others, each of which brings it at its own next round. What finds a full box is lost, as on any wire.
+
    SIGTERM ends each IN, so that the server answers what came, and ends. When each OUT has ended, so does the program.
    COUNTS is a file of memory that the launcher reads: what each queue brought and took.
    CAPTURE, where it isn't -1, has a head of pcap (raw IP), and gets what is brought and taken of TCP, what is brought with the time of its
@@ -40,14 +43,22 @@
 #include <unistd.h>
 
 enum { HEAD = 16, LONGEST = 65535, GATHERED = 1 << 16, TICK = 20000, MOST_STEP = 100000 };
-enum { TCP_PROTOCOL = 6, PROTOCOL = 9 };
+enum { ICMP_PROTOCOL = 1, TCP_PROTOCOL = 6, UDP_PROTOCOL = 17, PROTOCOL = 9 };
+enum { LEAST_PART = 8, TARGET_PORT = 2, SYSTAT = 11, UNREACHABLE = 3, TOO_LONG = 4 };
 enum { IP_LENGTH = 2, IP_SUM = 10, ENDS = 12, TCP = 20, SEQ = 24, ACK = 28, FLAGS = 33, WINDOW = 34, TCP_SUM = 36, TEXT = 40, PSH_FLAG = 8, ACK_FLAG = 16 };
 
 /* One direction of a queue, in a line of the processor's cache that no other thread writes. */
 struct counts { _Alignas(64) _Atomic uint64_t datagrams; _Atomic uint64_t bytes, refused; };
 _Static_assert(sizeof(struct counts) == 64, "as the launcher reads it");
 
-struct queue { int tun, in, out; long number; struct counts *inward, *outward; pthread_t reads; };
+/* Datagrams that other queues took, for this one to bring too. */
+enum { LETTERS = 16, LETTER = 1500 };
+struct box { pthread_mutex_t lock; size_t count; size_t length[LETTERS]; unsigned char letter[LETTERS][LETTER]; };
+
+struct queue { int tun, in, out; long number; struct counts *inward, *outward; pthread_t reads; struct box *box; };
+
+static struct queue *all_queues;
+static long queues;
 
 static atomic_bool ending;
 /* How long the device's head of a datagram is: it has its place in the end of a frame's head, which is read by then, or isn't written yet. */
@@ -174,6 +185,43 @@ static void fill_sum(unsigned char *datagram, size_t length) {
     if (head.flags & VIRTIO_NET_HDR_F_NEEDS_CSUM && at + 2 <= length) put_sum(datagram + at, ~sum_of(datagram + from, length - from, 0));
 }
 
+/* Whether a datagram is for the whole server, and not for one connection: UDP to the port of systat, or a router's word that a segment was too long. */
+static int for_all_rings(const unsigned char *datagram, size_t length) {
+    if (length < TCP || datagram[0] >> 4 != 4) return 0;
+    size_t header = 4 * (datagram[0] & 15);
+    const unsigned char *part = datagram + header;
+    if (length < header + LEAST_PART) return 0;
+    if (datagram[PROTOCOL] == UDP_PROTOCOL) return part[TARGET_PORT] == SYSTAT >> 8 && part[TARGET_PORT + 1] == (SYSTAT & 0xff);
+    return datagram[PROTOCOL] == ICMP_PROTOCOL && part[0] == UNREACHABLE && part[1] == TOO_LONG;
+}
+
+/* Posts a datagram to all other queues. Nobody holds a box's lock for longer than it takes to copy what is in it. */
+static void post(const struct queue *from, const unsigned char *datagram, size_t length) {
+    if (length > LETTER) return;
+    for (struct queue *to = all_queues; to < all_queues + queues; to++) {
+        if (to == from) continue;
+        pthread_mutex_lock(&to->box->lock);
+        if (to->box->count < LETTERS) {
+            to->box->length[to->box->count] = length;
+            memcpy(to->box->letter[to->box->count++], datagram, length);
+        }
+        pthread_mutex_unlock(&to->box->lock);
+    }
+}
+
+/* Frames of what was posted to this queue, behind so many bytes that are there. */
+static size_t take_letters(struct queue *q, unsigned char *frames, size_t used) {
+    pthread_mutex_lock(&q->box->lock);
+    for (size_t k = 0; k < q->box->count; k++) {
+        size_t length = q->box->length[k];
+        memcpy(frames + used + HEAD, q->box->letter[k], length);
+        used += put_head(frames + used, length, now()) + length;
+    }
+    q->box->count = 0;
+    pthread_mutex_unlock(&q->box->lock);
+    return used;
+}
+
 /* Frames of what the device has now, behind so many bytes that are there; -1 where it gives nothing any more. */
 static ssize_t take_datagrams(struct queue *q, unsigned char *frames, size_t used) {
     uint64_t datagrams = 0, bytes = 0;
@@ -185,6 +233,7 @@ static ssize_t take_datagrams(struct queue *q, unsigned char *frames, size_t use
             break;
         }
         if (device_head) fill_sum(frames + used + HEAD, n);
+        if (for_all_rings(frames + used + HEAD, n)) post(q, frames + used + HEAD, n);
         used += put_head(frames + used, n, kept(frames + used + HEAD, n)) + n;
         datagrams++;
         bytes += n;
@@ -201,7 +250,7 @@ static int is_taken(int pipe, uint64_t behind) {
 
 static void *take(void *of) {
     struct queue *q = of;
-    unsigned char *frames = malloc(HEAD + GATHERED + HEAD + LONGEST);
+    unsigned char *frames = malloc(HEAD + LETTERS * (HEAD + LETTER) + GATHERED + HEAD + LONGEST);
     uint64_t next = 0, behind = 0;          /* the time of the next frame without bytes, and how much was written behind the last one */
     while (frames && !ending) {
         uint64_t at = now();
@@ -213,13 +262,15 @@ static void *take(void *of) {
             struct pollfd waits = { q->tun, POLLIN, 0 };
             poll(&waits, 1, at < next ? (next - at) / 1000 + 1 : 1);
         }
+        size_t timed = used;
+        used = take_letters(q, frames, used);
         ssize_t length = take_datagrams(q, frames, used);
         if (length < 0) {
             fprintf(stderr, "queue %ld of the device gives nothing any more: %s\n", q->number, strerror(errno));
             break;
         }
         if (length && !write_whole(q->in, frames, length)) break;
-        behind = used ? length - used : behind + length;
+        behind = timed ? length - timed : behind + length;
     }
     close(q->in);
     return 0;
@@ -334,11 +385,12 @@ int main(int words, char **word) {
         fputs("usage: queues JOIN COUNTS CAPTURE TUN IN OUT [TUN IN OUT ..]\n", stderr);
         return 2;
     }
-    long queues = (words - 4) / 3;
+    queues = (words - 4) / 3;
     device_head = atoi(word[1]) ? sizeof(struct virtio_net_hdr) : 0;
-    struct queue *of = calloc(queues, sizeof *of);
+    struct queue *of = all_queues = calloc(queues, sizeof *of);
+    struct box *boxes = calloc(queues, sizeof *boxes);
     struct counts *counts = mmap(0, 2 * queues * sizeof *counts, PROT_READ | PROT_WRITE, MAP_SHARED, atoi(word[2]), 0);
-    if (!of || counts == MAP_FAILED) {
+    if (!of || !boxes || counts == MAP_FAILED) {
         perror("queues");
         return 1;
     }
@@ -356,10 +408,12 @@ int main(int words, char **word) {
     int failed = pthread_create(&other, 0, await_end, &end);
     for (long k = 0; k < queues; k++) {
         char **its = word + 4 + 3 * k;
-        of[k] = (struct queue){ atoi(its[0]), atoi(its[1]), atoi(its[2]), k, counts + 2 * k, counts + 2 * k + 1, 0 };
+        of[k] = (struct queue){ atoi(its[0]), atoi(its[1]), atoi(its[2]), k, counts + 2 * k, counts + 2 * k + 1, 0, boxes + k };
+        pthread_mutex_init(&of[k].box->lock, 0);
         fcntl(of[k].tun, F_SETFL, O_NONBLOCK);
-        failed |= pthread_create(&of[k].reads, 0, give, of + k) || pthread_create(&other, 0, take, of + k);
     }
+    for (long k = 0; k < queues; k++)
+        failed |= pthread_create(&of[k].reads, 0, give, of + k) || pthread_create(&other, 0, take, of + k);
     if (failed) {
         fputs("queues: no threads\n", stderr);
         return 1;

@@ -8,6 +8,7 @@ import os
 import struct
 import subprocess
 import sys
+import time
 from pathlib import Path
 
 sys.path.append(str(Path(__file__).resolve().parents[1] / "parts"))
@@ -17,6 +18,8 @@ from programs import NOBODY, as_nobody, cpu_seconds, most_memory_kb, pages_words
 F_SETPIPE_SZ, PIPE = 1031, 1 << 20
 # What a queue counts, by direction: datagrams, their bytes, and those that the device refused; each direction in 64 bytes.
 COUNTS, DIRECTION = struct.Struct("QQQ"), 64
+# How often it is asked whether all is over, in seconds.
+LOOK = 0.02
 
 
 def mover():
@@ -66,8 +69,13 @@ class Rings:
         each = [COUNTS.unpack_from(self.counts, DIRECTION * place) for place in range(2 * self.rings)]
         return list(zip(each[::2], each[1::2]))
 
-    def serve(self):
-        self.server.wait()
+    def serve(self, is_over=None):
+        """Until the server ends, or all is over."""
+        if is_over is None:
+            self.server.wait()
+            return
+        while self.server.poll() is None and not is_over():
+            time.sleep(LOOK)
 
     def facts(self):
         """Sums are the device's; these are the rings' own."""

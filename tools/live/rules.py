@@ -1,4 +1,5 @@
 """What a server beside its blocks does with what strangers send: one function a rule, each over frames."""
+import ipaddress
 import socket
 import struct
 
@@ -293,5 +294,73 @@ def path_mtu(program):
         assert [s.text for s in again] == [text[:1260]], again
 
 
+def path_mtu_icmp(program):
+    """RFC 1191: where a router says that a segment under way was too long, segments get shorter, but no shorter than 536 bytes, and what isn't acknowledged
+    is sent again. It isn't heeded for another number, other ends, another address or a longer path, and nobody else's segments get shorter."""
+    us, them, router = map(socket.inet_aton, (SERVER, CLIENT, "192.0.2.9"))
+    text = bytes(range(250)) * 12
+
+    def report(seq, mtu, port=40000, service=7, router=router, target=us):
+        dropped = tcp_segments.segment(us, service, them, port, seq, 0, PSH | ACK, text=text[:1460])
+        return tcp_segments.too_long(router, dropped, mtu, target)
+
+    with Framed(program) as server:
+        client, other = Client(server), Client(server, port=40001)
+
+        def acknowledge(count):
+            client.ack += count
+            return [(s.seq, s.text) for s in server.step(client.segment(client.seq, client.ack, ACK))]
+
+        assert [len(s.text) for s in client.send(text[:1460]) + client.send(text[1460:2920])] == [1460] * 2
+        first = client.ack
+        heeded = report(first + 1460, 1000)
+        passed_over = [report(first - 1, 1000), report(first + 2920, 1000), report(first, 1500), report(first, 1000, port=40002), report(first, 1000, service=9),
+                       report(first, 1000, target=socket.inet_aton("10.9.0.3")), report(first, 1000, router=socket.inet_aton("224.0.0.1")), report(first, 1000, router=us),
+                       heeded[:-1] + bytes((heeded[-1] ^ 1,)), heeded[:20] + b"\3\1" + heeded[22:], heeded[:-4]]
+        assert server.raw(*passed_over) == []
+        assert [(s.seq, s.text) for s in server.step(heeded, heeded)] == [(first, text[:960])]
+        for at in (960, 1920):
+            assert acknowledge(960) == [(first + at, text[at:min(at + 960, 2920)])]
+        assert acknowledge(960) == [(first + 2880, text[2880:2920])] and acknowledge(40) == []
+        assert [s.text for s in client.send(text[:1460])] == [text[:960], text[960:1460]]
+        # no shorter than 536 bytes, also where the router doesn't say how long
+        assert [s.text for s in server.step(report(client.ack, 0), report(client.ack, 300))] == [text[:536]]
+        assert acknowledge(536) == [(client.ack, text[536:1072])] and acknowledge(924) == []
+        assert [len(s.text) for s in other.send(text[:1460])] == [1460]
+
+
+def drain(program):
+    """Where the host orders it, no connection opens any more, and at the next tick each one closes: what is under way goes first, then its FIN. An order
+    of anybody else, by a port that takes no right, with options or with a wrong sum says nothing, and so does another text."""
+    us, host = socket.inet_aton(SERVER), socket.inet_aton("10.9.0.250")
+    order = tcp_segments.udp(host, 1023, us, 11, b"drain")
+    with_options = struct.pack(">BBH", 0x46, 0, len(order) + 4) + order[4:10] + b"\0\0" + order[12:20] + b"\1\1\1\0"
+    with_options = with_options[:10] + struct.pack(">H", tcp_segments.inet_sum(with_options)) + with_options[12:] + order[20:]
+    others = [tcp_segments.udp(socket.inet_aton(CLIENT), 1023, us, 11, b"drain"), tcp_segments.udp(host, 1024, us, 11, b"drain"), tcp_segments.udp(host, 1023, us, 12, b"drain"),
+              tcp_segments.udp(host, 1023, socket.inet_aton("10.9.0.3"), 11, b"drain"), tcp_segments.udp(host, 1023, us, 11, b"drained"), tcp_segments.udp(host, 1023, us, 11, b""),
+              order[:-1] + b"m", order[:8] + b"\77" + order[9:], order[:26] + b"\0\0" + order[28:], with_options]
+    with Framed(program, host=ipaddress.ip_address("10.9.0.250")) as server:
+        client, slow = Client(server), Client(server, port=40001, window=3)
+        half, = server.step(datagram(40002, 7, 1000, 0, SYN))
+        assert server.raw(*others, b"") == [] and [s.text for s in client.send(b"before")] == [b"before"], "somebody else's order"
+        client.ack += 6
+        assert [s.text for s in slow.send(b"longer")] == [b"lon"]
+        assert server.raw(order) == [], "an answer to an order"
+        refused, = server.step(datagram(41000, 7, 1000, 0, SYN))
+        assert (refused.flags, refused.ack) == (RST | ACK, 1001), refused
+        told, = server.step(after=1)
+        assert (told.target_port, told.seq, told.flags) == (40000, client.ack, FIN | ACK), told
+        # the slow one gets the rest, and its FIN behind it
+        slow.ack += 3
+        assert [s.text for s in server.step(slow.segment(slow.seq, slow.ack, ACK, window=100))] == [b"ger", b""]
+        # the half-open one is told once it is open
+        assert server.step(datagram(40002, 7, 1001, half.seq + 1, ACK)) == []
+        told, = server.step(after=1)
+        assert (told.target_port, told.seq, told.flags) == (40002, half.seq + 1, FIN | ACK), told
+        client.ack += 1
+        assert [s.flags for s in server.step(client.segment(client.seq, client.ack, FIN | ACK))] == [ACK]
+
+
 RULES = {function.__name__.replace("_", "-"): function
-         for function in (addresses, challenges, blind, fresh, idle, one_address, vanished, half_open, own_age, silent, time_wait, memory, zero_window, echo_requests, pings, path_mtu, ports)}
+         for function in (addresses, challenges, blind, fresh, idle, one_address, vanished, half_open, own_age, silent, time_wait, memory, zero_window, echo_requests, pings, path_mtu, path_mtu_icmp, ports,
+                          drain)}

@@ -1,6 +1,7 @@
 """What a launcher knows of its server, told over a socket to whoever asks: `tools/sqlive status`."""
 import contextlib
 import os
+import re
 import socket
 import sys
 import threading
@@ -75,9 +76,35 @@ def facts_of(device):
     return None
 
 
-def tell(device, follow):
-    """What the server on a device met so far: a fact a line, or to follow it a line a second until it ends. Whether there is one."""
+# The facts that may fall, or say what is; all others count.
+GAUGES = ("open", "most_memory_kb", "rings")
+# A fact of one ring, or of the answers of one status: the name that all such have, and what tells them apart.
+LABELLED = re.compile("(?P<ring>ring)_(?P<which>[0-9]+)_(?P<way>in|out)|(?P<answers>answers)_(?P<status>[0-9]+|other)")
+
+
+def exposition(facts):
+    """The facts in the text format of Prometheus: all lines of a name stand together."""
+    samples = {}
+    for fact, value in facts.items():
+        found = LABELLED.fullmatch(fact)
+        if not found:
+            name, labels = fact, ""
+        elif found["ring"]:
+            name, labels = f"ring_{found['way']}", f'{{ring="{found["which"]}"}}'
+        else:
+            name, labels = "answers_by_status", f'{{status="{found["status"]}"}}'
+        samples.setdefault(f"sqlive_{name}", []).append(f"{labels} {value}")
+    return "".join(f"# TYPE {name} {'gauge' if name.removeprefix('sqlive_') in GAUGES else 'counter'}\n" + "".join(f"{name}{line}\n" for line in lines)
+                   for name, lines in samples.items())
+
+
+def tell(device, follow, prometheus=False):
+    """What the server on a device met so far: a fact a line, or in the format of Prometheus, or to follow it a line a second until it ends. Whether
+    there is one."""
     facts = facts_of(device)
+    if prometheus:
+        print(end=exposition(facts or {}))
+        return bool(facts)
     if not follow:
         for fact, value in (facts or {}).items():
             print(fact, value)

@@ -25,9 +25,27 @@ def segment(source, source_port, target, target_port, seq, ack, flags, window=64
 
 def echo(source, target, kind, rest):
     """An echo message of ICMP (RFC 792) in its datagram: 8 asks, 0 answers."""
-    message = bytes((kind, 0)) + struct.pack(">H", inet_sum(bytes((kind, 0, 0, 0)) + rest)) + rest
+    return icmp(source, target, kind, 0, rest)
+
+
+def too_long(router, dropped, mtu, target=None):
+    """What a router says of a datagram that it can't pass on whole, to its sender (RFC 792; RFC 1191, 4): it quotes the header and 8 bytes."""
+    return icmp(router, target or dropped[12:16], 3, 4, struct.pack(">HH", 0, mtu) + dropped[:28])
+
+
+def icmp(source, target, kind, code, rest):
+    """A message of ICMP in its datagram."""
+    message = bytes((kind, code)) + struct.pack(">H", inet_sum(bytes((kind, code, 0, 0)) + rest)) + rest
     header = struct.pack(">BBHHHBBH", 0x45, 0, 20 + len(message), 0, 0x4000, 64, 1, 0) + source + target
     return header[:10] + struct.pack(">H", inet_sum(header)) + header[12:] + message
+
+
+def udp(source, source_port, target, port, text):
+    """A datagram of UDP (RFC 768)."""
+    part = struct.pack(">HHHH", source_port, port, 8 + len(text), 0) + text
+    part = part[:6] + struct.pack(">H", inet_sum(source + target + struct.pack(">BBH", 0, 17, len(part)) + part) or 0xFFFF) + part[8:]
+    header = struct.pack(">BBHHHBBH", 0x45, 0, 20 + len(part), 0, 0x4000, 64, 17, 0) + source + target
+    return header[:10] + struct.pack(">H", inet_sum(header)) + header[12:] + part
 
 
 @dataclass

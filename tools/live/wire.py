@@ -12,18 +12,21 @@ import os
 import random
 import select
 import signal
+import socket
 import struct
 import subprocess
 import sys
 import time
 from dataclasses import dataclass, field
 
+import tcp_segments
 import tun
 from frames import CLIENT, HEAD, Frames
 from programs import most_memory_kb
 from rings import F_SETPIPE_SZ, PIPE
 
 CLONE_NEWNET = 0x40000000
+ROUTER = "192.0.2.9"
 
 
 def new_namespace():
@@ -45,17 +48,19 @@ class Impairments:
     jitter: float = 0.0
     rate: float = 0.0
     queue: int = 100
+    # how many bytes a datagram may have behind the router on the way to the clients (0: as many as it has)
+    path: int = 0
     seed: int = 1
 
     def any(self):
-        return any((self.loss, self.duplicate, self.corrupt, self.reorder, self.delay, self.jitter, self.rate))
+        return any((self.loss, self.duplicate, self.corrupt, self.reorder, self.delay, self.jitter, self.rate, self.path))
 
 
 @dataclass
 class Direction:
     """One direction of the wire, with its counts."""
     deliver: callable
-    counts: dict = field(default_factory=lambda: dict(datagrams=0, lost=0, doubled=0, corrupted=0, overflowed=0))
+    counts: dict = field(default_factory=lambda: dict(datagrams=0, lost=0, doubled=0, corrupted=0, overflowed=0, too_long=0))
     busy_until: float = 0.0
     queued: int = 0
 
@@ -135,6 +140,10 @@ class Wire:
         if not asked.any():
             way.deliver(datagram)
             return
+        if way is self.outward and 0 < asked.path < len(datagram):
+            way.counts["too_long"] += 1
+            self.report(tcp_segments.too_long(socket.inet_aton(ROUTER), datagram, asked.path))
+            return
         if self.random.random() < asked.loss:
             way.counts["lost"] += 1
             return
@@ -142,6 +151,12 @@ class Wire:
         way.counts["doubled"] += doubled
         for _ in range(1 + doubled):
             self.send_one(way, datagram)
+
+    def report(self, message):
+        """What the router says comes to every ring: it isn't of the connection's own flow."""
+        at = self.now()
+        for end in self.ends:
+            end.put(at, message)
 
     def send_one(self, way, datagram):
         asked, now = self.asked, time.monotonic()

@@ -333,6 +333,25 @@ class Status(unittest.TestCase):
             self.assertIsNone(status.facts_of("sqlive0"))
         self.assertRegex(said.getvalue(), "^sqlive: it serves without status: .*\n$")
 
+    def test_the_format_of_prometheus(self):
+        facts = {"seconds": "1.5", "open": 3, "ring_0_in": 5, "ring_0_out": 6, "ring_1_in": 7, "ring_1_out": 8, "answers": 3, "answers_200": 2, "answers_other": 1}
+        self.assertEqual(status.exposition(facts), """# TYPE sqlive_seconds counter
+sqlive_seconds 1.5
+# TYPE sqlive_open gauge
+sqlive_open 3
+# TYPE sqlive_ring_in counter
+sqlive_ring_in{ring="0"} 5
+sqlive_ring_in{ring="1"} 7
+# TYPE sqlive_ring_out counter
+sqlive_ring_out{ring="0"} 6
+sqlive_ring_out{ring="1"} 8
+# TYPE sqlive_answers counter
+sqlive_answers 3
+# TYPE sqlive_answers_by_status counter
+sqlive_answers_by_status{status="200"} 2
+sqlive_answers_by_status{status="other"} 1
+""")
+
     def test_only_this_machines_users_may_write_there(self):
         self.doCleanups()
         self.assertEqual([place.parent for place in status.places("sqlive0")][0], Path("/run/sqlive"))
@@ -550,6 +569,51 @@ class Queues(unittest.TestCase):
         self.assertEqual(self.got()[1], self.segment(0, b"late"))
         self.ring[1].close()
         self.assertEqual(self.program.wait(30), 0)
+
+
+class ForAllRings(unittest.TestCase):
+    """queues.c with two queues: what is for the whole server comes to both rings."""
+    def setUp(self):
+        need("cc")
+        self.devices, self.rings, self.outputs, ends = [], [], [], []
+        for _ in range(2):
+            device, queue = socket.socketpair(socket.AF_UNIX, socket.SOCK_DGRAM)
+            to_ring, from_ring = os.pipe(), os.pipe()
+            self.devices.append(device)
+            self.rings.append(open(to_ring[0], "rb"))
+            ends += [queue.detach(), to_ring[1], from_ring[0]]
+            self.outputs.append(open(from_ring[1], "wb"))
+        counts = os.memfd_create("counts")
+        os.ftruncate(counts, 4 * rings.DIRECTION)
+        self.program = subprocess.Popen([rings.mover(), "0", str(counts), "-1", *map(str, ends)], pass_fds=[counts, *ends])
+        for end in (counts, *ends):
+            os.close(end)
+
+    def tearDown(self):
+        self.program.kill()
+        self.program.wait()
+        for end in (*self.devices, *self.rings, *self.outputs):
+            end.close()
+
+    def next_of(self, ring):
+        """The next datagram that a ring gets."""
+        while True:
+            length, _ = Queues.HEAD.unpack(self.rings[ring].read(16))
+            if length:
+                return self.rings[ring].read(length)
+
+    def test_who_gets_what(self):
+        order = tcp_segments.udp(CLIENT, 1023, SERVER, 11, b"drain")
+        too_long = tcp_segments.echo(CLIENT, SERVER, 3, bytes(4) + bytes(28))
+        too_long = too_long[:21] + b"\4" + too_long[22:]
+        alone = [tcp_segments.udp(CLIENT, 1023, SERVER, 12, b"drain"), tcp_segments.udp(CLIENT, 11, SERVER, 9, b"drain"), tcp_segments.echo(CLIENT, SERVER, 8, bytes(32)),
+                 order[:27], tcp_segments.segment(CLIENT, 40000, SERVER, 11, 1, 0, ACK)]
+        for datagram in (order, *alone, too_long):
+            self.devices[0].send(datagram)
+        self.assertEqual([self.next_of(0) for _ in range(7)], [order, *alone, too_long])
+        self.assertEqual([self.next_of(1) for _ in range(2)], [order, too_long])
+        self.devices[1].send(order)
+        self.assertEqual([self.next_of(1), self.next_of(0)], [order, order])
 
 
 class Launcher(unittest.TestCase):
