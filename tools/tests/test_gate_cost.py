@@ -58,8 +58,6 @@ class Cost(unittest.TestCase):
             top = Path(folder)
             (top / "tools").mkdir()
             shutil.copy2(TOOLS / "gate-cost", top / "tools")
-            (top / "crates" / "high" / "must-fail").mkdir(parents=True)
-            (top / "crates" / "high" / "must-fail" / "one.edit").write_text("file: src/lib.rt\n")
             (top / "crates.txt").write_text("# NAME: what it stands on\nlow:\nhigh may_wait=1: low\n")
             prover = top / "rattle"
             shutil.copy2("/bin/bash", prover)           # its name alone tells the prover
@@ -72,16 +70,18 @@ class Cost(unittest.TestCase):
         self.assertEqual(done.returncode, 4)
         lines = done.stdout.splitlines()
         rows = [[word.strip() for word in line.strip("|").split("|")] for line in lines[2:4]]
-        self.assertEqual([[row[0], *row[6:]] for row in rows], [["`high`", "1"], ["all", "1"]])
+        self.assertEqual([[row[0], len(row)] for row in rows], [["`high`", 6], ["all", 6]])
         self.assertIn("of 0.", lines[-1])
 
 
 class Page(unittest.TestCase):
     def test_counts_are_those_of_the_tree(self):
-        """docs/GATE.md has a line for each crate, with how many edits there are."""
-        rows = [[cell.strip() for cell in line.strip("|").split("|")] for line in (TOP / "docs" / "GATE.md").read_text().splitlines() if line.startswith("| `")]
-        told = {row[0].strip("`"): row[6] for row in rows if len(row) == 7}
-        self.assertEqual(told, {crate: str(gate_cost.count(crate) or "") for crate in gate_cost.order()})
+        """docs/GATE.md has a line for each crate, has minutes of edits where there are some, and says how many there are."""
+        text, edits = (TOP / "docs" / "GATE.md").read_text(), {crate: len([*(TOP / "crates" / crate).glob("must-fail/*.edit")]) for crate in gate_cost.order()}
+        rows = [[cell.strip() for cell in line.strip("|").split("|")] for line in text.splitlines() if line.startswith("| `")]
+        told = {row[0].strip("`"): bool(row[4]) for row in rows if len(row) == 6}
+        self.assertEqual(told, {crate: bool(count) for crate, count in edits.items()})
+        self.assertIn(f"tries {sum(edits.values())} wrong bodies", text)
 
     def test_sums_are_those_of_the_lines(self):
         """What it costs to prove a program with all below it, as the second table says, follows from the first one."""
