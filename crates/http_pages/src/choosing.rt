@@ -2,11 +2,11 @@
 
 ghost use Rattle.std.specs.Prelude.{◌≡◌, ◌^◌, ◌-◌, ◌<◌};
 ghost use Rattle.std.specs.Option.{option_copied};
-ghost use Rattle.http_pages.specs.Choosing.{answer, at_folder, at_page, by_conditions, by_fault, by_lines, by_method, by_path, by_range};
+ghost use Rattle.http_pages.specs.Choosing.{answer, at_folder, at_page, by_conditions, by_fault, by_method, by_path, by_range};
 ghost use Rattle.http_pages.specs.Choosing.{from_slash, has_scheme, is_head, is_known, is_matched, is_served, path_of, plain, refused, unserved, with_part};
 ghost use Rattle.http_pages.specs.Heads.{lines};
-ghost use Rattle.http_pages.specs.Pages.{folder_named, page_named};
-ghost use Rattle.http_pages.specs.Requests.{fault_of, has_content, known_of, method_of, target_of};
+ghost use Rattle.http_pages.specs.Pages.{page_named};
+ghost use Rattle.http_pages.specs.Requests.{fault_of, has_content, known_of, method_of};
 
 use crate::answer::{Answer, Status};
 use crate::cuts::{cut, next_line, place_of};

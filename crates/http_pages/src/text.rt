@@ -1,8 +1,8 @@
 //! The bytes of an answer.
 
-ghost use Rattle.std.specs.Prelude.{◌≡◌, ◌++◌, IfOk, OnOk, codes, length};
+ghost use Rattle.std.specs.Prelude.{◌≡◌, ◌++◌, IfOk, OnOk, codes};
 ghost use Rattle.std.specs.Fmt.{decimal};
-ghost use Rattle.http_pages.specs.AnswerText.{answer_body, answer_head, connection, content, escaped, escaped_byte, field, fields_by, in_words, is_path_byte, no_range, part_of, part_range, reason, sized};
+ghost use Rattle.http_pages.specs.AnswerText.{answer_body, answer_head, connection, content, escaped, escaped_byte, field, fields_by, is_path_byte, no_range, part_of, part_range, reason, sized};
 ghost use Rattle.http_pages.specs.Choosing.{nth_page};
 
 use crate::answer::{Answer, Status};
