@@ -1,16 +1,12 @@
-ghost use Rattle.squeue_arrivals.specs.Pooling.{IsInRange};
-
 use arriving_limiter::limit_requests;
 use crossbeam_channel::{Sender, bounded};
 use key_limiter::Limit;
 use squeue_answers::Kept;
 use squeue_arrivals::{ArrivalPool, SPAN};
 use squeue_enter::Mode;
-use std::alloc::Global;
-use std::process::Abort;
 use std::sync::Wait;
 use std::test::*;
-use std::thread::{Threads, join};
+use std::thread::join;
 
 // A request's key, its time, and whether it passes.
 type Row = (u64, u32, bool);
@@ -40,68 +36,39 @@ fn are_answers(sink: &Kept<bool>, rows: &[Row]) -> bool {
     true
 }
 
-// The requests of the first channel. A bucket holds 25 microseconds at most, of which a request takes 10: two pass at once, and a time
-// before one that was seen fills nothing.
-const FIRST: [Row; 15] = [
-    (1, 0, true),
-    (2, 2, true),
-    (1, 0, true),
-    (1, 0, false),
-    (2, 2, true),
-    (1, 4, false),
-    (2, 8, true),
-    (1, 5, true),
-    (1, 3, false),
-    (2, 9, false),
-    (1, 14, false),
-    (1, 15, true),
-    (1, 100, true),
-    (1, 100, true),
-    (1, 100, false),
-];
-
-// Those of the second, in which key 1 has a bucket of its own.
-const SECOND: [Row; 5] = [
-    (1, 1, true),
-    (1, 1, true),
-    (9, 1, true),
-    (1, 6, true),
-    (1, 6, false),
-];
-
-// Both channels are served by this pool, and each request is answered as its row says.
-fn expect_answers(
-    rt: &(impl Abort + Threads + Wait + Sync),
-    alloc: Global,
-    pool: &ArrivalPool,
-) -> Result<(), Fail>
-    requires { IsInRange pool.now }
-{
+// Two channels, in each mode and by each number of squeues. A bucket holds 25 microseconds at most, of which a request takes 10: two
+// pass at once, and a time before one that was seen fills nothing. Key 1 has a bucket of its own in each channel.
+#[test]
+fn requests_are_limited(rt: HostRuntime) -> Result<(), Fail> {
+    let alloc = rt.alloc();
     let limit = Limit {
         token: 10,
         most: 25,
     };
-    let (to_first, from_first) = bounded(alloc, 4)?;
-    let (to_second, from_second) = bounded(alloc, 4)?;
-    let channels = vec![in alloc; from_first, from_second]?;
-    let (limited, ()) = join(
-        rt,
-        || limit_requests(rt, alloc, pool, limit, channels),
-        || {
-            send(rt, to_second, &SECOND);
-            send(rt, to_first, &FIRST);
-        },
-    );
-    let sources = limited?.sources;
-    assert_eq!(rt; sources.len(), 2);
-    assert!(rt; are_answers(&sources[0].sink, &FIRST));
-    assert!(rt; are_answers(&sources[1].sink, &SECOND));
-    Ok(())
-}
-
-// Two channels, in each mode and by each number of squeues.
-#[test]
-fn requests_are_limited(rt: HostRuntime) -> Result<(), Fail> {
+    let first = [
+        (1, 0, true),
+        (2, 2, true),
+        (1, 0, true),
+        (1, 0, false),
+        (2, 2, true),
+        (1, 4, false),
+        (2, 8, true),
+        (1, 5, true),
+        (1, 3, false),
+        (2, 9, false),
+        (1, 14, false),
+        (1, 15, true),
+        (1, 100, true),
+        (1, 100, true),
+        (1, 100, false),
+    ];
+    let second = [
+        (1, 1, true),
+        (1, 1, true),
+        (9, 1, true),
+        (1, 6, true),
+        (1, 6, false),
+    ];
     for (squeues, mode) in [
         (1, Mode::Process),
         (2, Mode::Process),
@@ -116,7 +83,21 @@ fn requests_are_limited(rt: HostRuntime) -> Result<(), Fail> {
             budget: 4,
             span: SPAN,
         };
-        expect_answers(&rt, rt.alloc(), &pool)?;
+        let (to_first, from_first) = bounded(alloc, 4)?;
+        let (to_second, from_second) = bounded(alloc, 4)?;
+        let channels = vec![in alloc; from_first, from_second]?;
+        let (limited, ()) = join(
+            &rt,
+            || limit_requests(&rt, alloc, &pool, limit, channels),
+            || {
+                send(&rt, to_second, second.as_slice());
+                send(&rt, to_first, first.as_slice());
+            },
+        );
+        let sources = limited?.sources;
+        assert_eq!(rt; sources.len(), 2);
+        assert!(rt; are_answers(&sources[0].sink, first.as_slice()));
+        assert!(rt; are_answers(&sources[1].sink, second.as_slice()));
     }
     Ok(())
 }
