@@ -32,7 +32,7 @@ impl KeyAnswers for Running {
     }
 }
 
-fn pool_of(squeues: u32, mode: Mode, span: u32) -> ArrivalPool
+fn pool_by(squeues: u32, mode: Mode, span: u32) -> ArrivalPool
     requires { 1 ≤ squeues }
     ensures { IsInRange result }
 {
@@ -44,6 +44,13 @@ fn pool_of(squeues: u32, mode: Mode, span: u32) -> ArrivalPool
         budget: 4,
         span,
     }
+}
+
+fn pool_of(squeues: u32, mode: Mode) -> ArrivalPool
+    requires { 1 ≤ squeues }
+    ensures { IsInRange result }
+{
+    pool_by(squeues, mode, SPAN)
 }
 
 // Each amount of two sources is answered in order, in each mode and by each number of squeues, and where places are opened anew.
@@ -68,7 +75,7 @@ fn sums_are_answered(rt: HostRuntime) -> Result<(), Fail> {
             (Listed::of(first), Kept::none(alloc)),
             (Listed::of(second), Kept::none(alloc)),
         ]?;
-        let pool = pool_of(squeues, mode, span);
+        let pool = pool_by(squeues, mode, span);
         let served = serve_answering(&rt, alloc, &pool, 8, Running, sources)?.sources;
         assert_eq!(rt; served.len(), 2);
         let answers = served[0].sink.answers();
@@ -95,7 +102,7 @@ fn refused_item_has_no_answer(rt: HostRuntime) -> Result<(), Fail> {
     let alloc = rt.alloc();
     let items = [(5, 1), (6, 2), (5, 3), (7, 4), (8, 9), (5, 5)].to_vec(alloc)?;
     let sources = vec![in alloc; (Listed::of(items), Kept::none(alloc))]?;
-    let pool = pool_of(1, Mode::Process, SPAN);
+    let pool = pool_of(1, Mode::Process);
     let served = serve_answering(&rt, alloc, &pool, 1, Running, sources)?.sources;
     assert_eq!(rt;
         served[0].sink.answers(),
