@@ -35,14 +35,6 @@ module _ {T S : Type 0} where
   abbrev pub items_of : Stream T S → List T
   items_of stream = received stream.input
 
-  -- the stream holds the same end of the same ring, and was made of the same items, by the same counts
-  pub record SameStream (a b : Stream T S) : Type 0 where
-    pub ring : SameConsumer a.input b.input
-    pub items : items_of b ≡ items_of a
-    pub state : state_of b ≡ state_of a
-    pub feeds : feeds_of b ≡ feeds_of a
-    pub count : count_of b ≡ count_of a
-
   -- a stream has had as many feeds as it counts since it was put in, and at least as many items were ever popped
   pub record HasTaken (stream : Stream T S) (had : List Act) : Type 0 where
     pub feeds : fed had ≡ stream.had

@@ -4,12 +4,9 @@ ghost use Rattle.std.proofs.Common.{Global, List};
 ghost use Rattle.rtrb.specs.declared.AnyItems.{AnyItems};
 ghost use Rattle.rtrb.specs.declared.consumer.Consumer.{Consumer};
 ghost use Rattle.rtrb.specs.Ring.{IsPair, ProducerLooked, SameConsumer, known_items, received, sent};
-ghost use Rattle.squeue_streams.specs.Sourcing.{SameCounts, entered_of, producer_of, sent_of};
-ghost use Rattle.squeue_streams.specs.Taking.{HasTakenMore, SameStream, calls_of, count_of, feeds_of, input_of, items_of, state_of, steps_of, streams_of};
+ghost use Rattle.squeue_streams.specs.Taking.{HasTakenMore, calls_of, count_of, feeds_of, input_of, items_of, state_of, steps_of, streams_of};
 
-use crate::renewing::Renews;
-use crate::source::ItemSource;
-use placed_parts::{Parts, Places};
+use placed_parts::Parts;
 use rtrb::{Consumer, Producer, RingBuffer};
 use std::alloc::{AllocError, Global};
 use std::sync::Wait;
@@ -95,26 +92,6 @@ impl<T: Drop, S: Drop> Stream<T, S> {
         ensures { result ≡ state_of self }
     {
         self.state
-    }
-
-    /// How many items are pushed and not popped yet, where the source of the same ring is at hand.
-    pub fn left_beside(&mut self, source: &mut ItemSource<T>) -> usize
-        requires { IsPair (producer_of source.old) (input_of self.old) }
-        ensures same { (state_of self.new ≡ state_of self.old) × (items_of self.new ≡ items_of self.old) }
-        ensures source { SameCounts source.old source.new × (entered_of source.new ≡ entered_of source.old) }
-        ensures left { (left : List T) × (length left ≡ result) × (items_of self.old ++ left ≡ sent_of source.old) }
-    {
-        self.input.slots_beside(&mut source.producer)
-    }
-
-    /// How many items are pushed and not popped yet, where the end of the ring that pushes is at hand. Nothing else changes.
-    pub fn left_behind(&mut self, producer: &mut Producer<T>) -> usize
-        requires { IsPair producer.old (input_of self.old) }
-        ensures same { SameStream self.old self.new }
-        ensures producer { ProducerLooked producer.old producer.new }
-        ensures left { (left : List T) × (length left ≡ result) × (items_of self.old ++ left ≡ sent producer.old) }
-    {
-        self.input.slots_beside(producer)
     }
 
     /// How many items were popped, modulo 2^64.
@@ -229,10 +206,4 @@ impl<X: Steps + Drop, H: Wait + Drop> Parts for Streams<X, H> {
     fn call(&self, _alloc: Global, _stream: &mut Self::Part, _c: u32, _j: u32, _k: u32) {}
 
     ghost same_count = { λ p a b x y. x.feeds ∙ sym y.feeds };
-}
-
-impl<X: Steps + Drop, H: Wait + Drop> Renews for Places<Streams<X, H>> {
-    fn renewed(part: Stream<X::Item, X::State>) -> Stream<X::Item, X::State> {
-        part.renewed()
-    }
 }

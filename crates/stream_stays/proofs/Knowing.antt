@@ -1,14 +1,15 @@
 -- What a thread knows of its pass and of a stay after it has entered a chain, opened or closed.
-use Rattle.std.proofs.Common.{◌≡◌, ℕ, ◌+◌, ◌-◌, ◌%◌, ◌^◌, ◌≤◌, ◌<◌, Bool, true, false, List, [], length, refl, ap, sym, ◌∙◌, subst, arith}
+use Rattle.std.proofs.Common.{◌≡◌, ℕ, zero, suc, ◌+◌, ◌-◌, ◌%◌, ◌^◌, ◌≤◌, ◌<◌, ◌==◌, Bool, if◌then◌else◌, true, false, List, [], length, slice_index, refl, ap, sym, ◌∙◌, subst, arith}
+use Rattle.std.proofs.lemmas.Bool.Decides.{nat_tests}
 use Rattle.std.proofs.lemmas.List.{append-nil}
 use Rattle.turn_gate.specs.Passes.{number, seen}
 use Rattle.turn_gate.specs.declared.pass.Pass.{Pass}
 use Rattle.perimeter_core.specs.declared.entries.Feed.{Feed as FeedOf}
 use Rattle.perimeter_core.specs.declared.marks.SynchAct.{SynchAct}
-use Rattle.perimeter_core.specs.Perimeter.{Idle, is_here}
+use Rattle.perimeter_core.specs.Perimeter.{Idle, State, is_here}
 use Rattle.perimeter_core.specs.History.{Element, Limits, Setting, ask_quota, feed_quota, run}
-use Rattle.perimeter_core.specs.Deeds.{due}
-use Rattle.perimeter_core.specs.Legal.{asks_by, feeds_by}
+use Rattle.perimeter_core.specs.Deeds.{due, entries}
+use Rattle.perimeter_core.specs.Legal.{Enters, asks_by, feeds_by, one_more}
 use Rattle.squeue_state.specs.Naming.{Named, setting_of}
 use Rattle.squeue_state.specs.declared.guarded.Life.{Life}
 use Rattle.squeue_enter.specs.Entering.{Brought, MayEnter, MayGoOn}
@@ -16,9 +17,16 @@ use Rattle.synch_enter.specs.Synch.{MayAsk}
 use Rattle.conn_migrate.specs.Moving.{MayCome, MayLeave, Moved, RingLearns}
 use Rattle.histories.specs.Lists.{items_of}
 use Rattle.histories.proofs.RingLists.{length_items, same_key, other_key}
-use Rattle.squeue_streams.proofs.Chains.{enters_items}
 use Rattle.stream_stays.specs.declared.stay.Stay.{Stay}
 use Rattle.stream_stays.specs.Staying.{HasLife, IsAway, LeavesOthers, StaysAt, entered_of, leaves_of, pushed_of, stream_of}
+
+-- k feeds of one stream, from the next one on
+enters_items : (S : Setting) (t : State) (p c n k : ℕ) (next : ℕ → ℕ) → p ≡ c % S.rings → is_here t c ≡ true → n ≡ next c → n + k ≤ slice_index S.limits.feeds c → Enters S t p next (entries (items_of c n k))
+enters_items S t p c n zero next mine here is within = tt
+enters_items S t p c n (suc k) next mine here is within =
+    let one : (c == c) ≡ true = grind (arith, nat_tests) in
+    let more : suc n ≡ (if c == c then next c + 1 else next c) = rw one (omega (arith, is)) in
+    (mine, here, is, omega (arith, within), enters_items S t p c (suc n) k (one_more c next) mine here more (omega (arith, within)))
 
 module _ {R : Type 0} (limits : R → Limits) (s : Named R) where
   abbrev S : Setting

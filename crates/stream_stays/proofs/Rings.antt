@@ -1,12 +1,11 @@
 -- The two ends of a ring, and what was made of its items.
-use Rattle.std.proofs.Common.{◌≡◌, Global, ℕ, ◌%◌, ◌^◌, List, length, ap, sym, ◌∙◌, subst}
+use Rattle.std.proofs.Common.{Global, ℕ, sym, ◌∙◌}
 use Rattle.rtrb.specs.declared.AnyItems.{AnyItems}
 use Rattle.rtrb.specs.declared.consumer.Consumer.{Consumer}
 use Rattle.rtrb.specs.declared.producer.Producer.{Producer}
 use Rattle.rtrb.specs.Ring.{IsPair, SameConsumer, SameProducer}
 use Rattle.squeue_streams.specs.declared.streams.Stream.{Stream}
-use Rattle.squeue_streams.specs.Taking.{IsStreamOf, SameStream, Takes, input_of, items_of, state_of}
-use Rattle.squeue_streams.proofs.Items.{same_end}
+use Rattle.squeue_streams.specs.Taking.{IsStreamOf, input_of}
 use Rattle.stream_stays.specs.Staying.{IsOfRing}
 
 module _ {T : Type 0} where
@@ -25,18 +24,3 @@ module _ {T : Type 0} where
       -- the part of a stream has the other end of its ring
       pub its_pair : (p : Producer T Global AnyItems) → IsOfRing begins o c p → IsPair p (input_of a)
       its_pair p ring = pair_on p is.first_input (input_of a) (ring is.first_input is.first is.begun) is.its_ring
-
-      still_made : (b : Stream T S) → SameStream a b → Takes (step o) is.first (items_of b) (state_of b)
-      still_made b same = subst (λ (xs : List T). Takes (step o) is.first xs (state_of b)) (sym same.items) (subst (λ (t : S). Takes (step o) is.first (items_of a) t) (sym same.state) is.taken)
-
-      -- and is a part of the stream as long as nothing is made of more items
-      pub still_its : (b : Stream T S) → SameStream a b → IsStreamOf begins step o c b
-      still_its b same =
-          record {
-            first = is.first;
-            first_input = is.first_input;
-            begun = is.begun;
-            its_ring = same_end is.first_input (input_of a) (input_of b) is.its_ring same.ring;
-            taken = still_made b same;
-            counted = same.count ∙ (is.counted ∙ sym (ap (λ (xs : List T). length xs % 2 ^ 64) same.items));
-          }

@@ -1,7 +1,7 @@
 use Rattle.std.specs.Prelude.{[]}
 use Rattle.conn_migrate.proofs.Halves.{moved, puts}
 use Rattle.conn_migrate.proofs.OwnMarks.{knows_in, next_in}
-use Rattle.squeue_streams.proofs.renewing.put_into.Goals as goal
+use Rattle.stream_stays.proofs.passing.put_into.Goals as goal
 
 pub put_block-requires : goal.put_block-requires
 put_block-requires g c =
