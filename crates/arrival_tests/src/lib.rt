@@ -9,3 +9,5 @@ mod limits;
 mod sums;
 #[cfg(test)]
 mod through;
+#[cfg(test)]
+mod watched;

@@ -36,8 +36,35 @@ fn are_answers(sink: &Kept<bool>, rows: &[Row]) -> bool {
     true
 }
 
-// Two channels, in each mode and by each number of squeues. A bucket holds 25 microseconds at most, of which a request takes 10: two
-// pass at once, and a time before one that was seen fills nothing. Key 1 has a bucket of its own in each channel.
+// Requests for a bucket that holds 25 microseconds at most, of which a request takes 10: two pass at once, and a time before one that was seen
+// fills nothing.
+const FIRST: [Row; 15] = [
+    (1, 0, true),
+    (2, 2, true),
+    (1, 0, true),
+    (1, 0, false),
+    (2, 2, true),
+    (1, 4, false),
+    (2, 8, true),
+    (1, 5, true),
+    (1, 3, false),
+    (2, 9, false),
+    (1, 14, false),
+    (1, 15, true),
+    (1, 100, true),
+    (1, 100, true),
+    (1, 100, false),
+];
+
+const SECOND: [Row; 5] = [
+    (1, 1, true),
+    (1, 1, true),
+    (9, 1, true),
+    (1, 6, true),
+    (1, 6, false),
+];
+
+// Two channels, in each mode and by each number of squeues. Key 1 has a bucket of its own in each channel.
 #[test]
 fn requests_are_limited(rt: HostRuntime) -> Result<(), Fail> {
     let alloc = rt.alloc();
@@ -45,30 +72,6 @@ fn requests_are_limited(rt: HostRuntime) -> Result<(), Fail> {
         token: 10,
         most: 25,
     };
-    let first = [
-        (1, 0, true),
-        (2, 2, true),
-        (1, 0, true),
-        (1, 0, false),
-        (2, 2, true),
-        (1, 4, false),
-        (2, 8, true),
-        (1, 5, true),
-        (1, 3, false),
-        (2, 9, false),
-        (1, 14, false),
-        (1, 15, true),
-        (1, 100, true),
-        (1, 100, true),
-        (1, 100, false),
-    ];
-    let second = [
-        (1, 1, true),
-        (1, 1, true),
-        (9, 1, true),
-        (1, 6, true),
-        (1, 6, false),
-    ];
     for (squeues, mode) in [
         (1, Mode::Process),
         (2, Mode::Process),
@@ -90,14 +93,14 @@ fn requests_are_limited(rt: HostRuntime) -> Result<(), Fail> {
             &rt,
             || limit_requests(&rt, alloc, &pool, limit, channels),
             || {
-                send(&rt, to_second, second.as_slice());
-                send(&rt, to_first, first.as_slice());
+                send(&rt, to_second, SECOND.as_slice());
+                send(&rt, to_first, FIRST.as_slice());
             },
         );
         let sources = limited?.sources;
         assert_eq!(rt; sources.len(), 2);
-        assert!(rt; are_answers(&sources[0].sink, first.as_slice()));
-        assert!(rt; are_answers(&sources[1].sink, second.as_slice()));
+        assert!(rt; are_answers(&sources[0].sink, FIRST.as_slice()));
+        assert!(rt; are_answers(&sources[1].sink, SECOND.as_slice()));
     }
     Ok(())
 }

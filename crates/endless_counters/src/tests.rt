@@ -1,7 +1,9 @@
-//! Runs whose streams are put in again as they go, whose room is full most of the time, and in which somebody looks.
+//! Runs whose places are opened anew as they go, whose room is full most of the time, and in which somebody looks.
 ghost use Rattle.std.specs.Prelude.{◌≤◌, ◌^◌};
 
-use endless_sums::{LIFE, RunEnd, Size, Stint, Sums, Total, sum_for};
+use crate::serving::{RunEnd, Size, sum_for};
+use crate::source::Stint;
+use squeue_arrivals::SPAN;
 use std::process::Abort;
 use std::sync::Wait;
 use std::test::*;
@@ -12,10 +14,9 @@ use std::time::Clock;
 fn counts<'a, W: Threads + Wait + Clock + Print + Sync + AllocGlobal + Abort>(
     rt: &'a W,
     size: Size,
-) -> RunEnd<Sums<&'a W>, Total>
+) -> RunEnd<'a, W>
     requires rings { (1 ≤ size.rings) × (size.rings ≤ 62) }
     requires room { (1 ≤ size.room) × (size.room ≤ 2 ^ 30) }
-    requires span { 1 ≤ size.span }
 {
     let rounds = u64::from(size.rings).saturating_mul(u64::from(size.stint.rounds));
     let left = sum_for(rt, rt.alloc(), size).expect(rt, "a run");
@@ -24,59 +25,41 @@ fn counts<'a, W: Threads + Wait + Clock + Print + Sync + AllocGlobal + Abort>(
     left
 }
 
-// Feeds are numbered anew after each 300 amounts: with three more numbers the streams couldn't have had a thousand.
-#[test]
-fn streams_are_put_in_again(rt: HostRuntime) {
-    let stint = Stint {
+// So many rounds, however long they last.
+fn rounds(rounds: u32) -> Stint {
+    Stint {
         seconds: 0,
-        rounds: 1,
+        rounds,
         pause: 0,
-    };
-    let size = Size {
-        rings: 2,
-        room: 4,
-        stint,
-        span: 300,
-    };
-    let left = counts(&rt, size);
-    assert_eq!(rt; left.again, 6);
+    }
 }
 
-// A stream of one feed number: after each amount it's put in again.
+// The place of a ring is opened anew before each amount, or behind some of them.
 #[test]
-fn each_feed_is_number_0(rt: HostRuntime) {
-    let stint = Stint {
-        seconds: 0,
-        rounds: 1,
-        pause: 0,
-    };
-    let size = Size {
-        rings: 1,
-        room: 1,
-        stint,
-        span: 1,
-    };
-    let left = counts(&rt, size);
-    assert_eq!(rt; left.again, 999);
+fn places_are_opened_anew(rt: HostRuntime) {
+    for (rings, room, span) in [(2, 4, 300), (1, 1, 1), (3, 64, 0)] {
+        let size = Size {
+            rings,
+            room,
+            stint: rounds(1),
+            span,
+        };
+        let left = counts(&rt, size);
+        assert!(rt; left.squeue.last.is_none());
+    }
 }
 
 // Rings flood a squeue with less room than one chain of theirs would take, and all that each brings finds its place.
 #[test]
 fn rooms_are_full(rt: HostRuntime) {
     for (rings, room) in [(3, 1), (2, 2), (2, 63)] {
-        let stint = Stint {
-            seconds: 0,
-            rounds: 2,
-            pause: 0,
-        };
         let size = Size {
             rings,
             room,
-            stint,
-            span: u32::MAX,
+            stint: rounds(2),
+            span: SPAN,
         };
-        let left = counts(&rt, size);
-        assert_eq!(rt; left.again, 0);
+        let _left = counts(&rt, size);
     }
 }
 
@@ -94,16 +77,16 @@ fn one_ring_is_slow(rt: HostRuntime) {
             rings,
             room,
             stint,
-            span: u32::MAX,
+            span: SPAN,
         };
         let left = sum_for(&rt, rt.alloc(), size).expect(&rt, "a run");
         let mut brought = 0u64;
-        for (place, source) in left.resident.parts().iter().zip(&left.sources) {
-            let pushed = LIFE.saturating_sub(source.left());
-            let stream = place.as_ref().expect(&rt, "a stream");
-            assert_eq!(rt; stream.count(), pushed);
-            assert!(rt; pushed >= 1_000);
-            brought = brought.wrapping_add(pushed);
+        for ring in &left.rings {
+            let count = ring.source.count();
+            assert!(rt; count >= 1_000);
+            assert_eq!(rt; ring.parts.len(), 1);
+            assert_eq!(rt; ring.parts[0].state.amounts, count);
+            brought = brought.wrapping_add(count);
         }
         assert_eq!(rt; left.end.amounts, brought);
         assert_eq!(rt; left.end.total, (brought / 1_000).saturating_mul(499_500));
@@ -122,10 +105,11 @@ fn who_looks_sees_a_beginning(rt: HostRuntime) {
         rings: 1,
         room: 64,
         stint,
-        span: u32::MAX,
+        span: SPAN,
     };
     let left = sum_for(&rt, rt.alloc(), size).expect(&rt, "a run");
-    let last = left.last.expect(&rt, "a look");
-    assert!(rt; left.told);
+    let last = left.squeue.last.expect(&rt, "a look");
+    assert!(rt; left.squeue.told);
+    assert!(rt; last.amounts > 0);
     assert!(rt; last.amounts <= left.end.amounts);
 }

@@ -18,4 +18,3 @@ pub mod RingTasks
 pub mod RingJobs
 pub mod RingRun
 pub mod RingsDealt
-pub mod WatchedGroups

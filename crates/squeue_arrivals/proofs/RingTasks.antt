@@ -145,7 +145,7 @@ module _ {T S A Z : Type 0} where
 module _ {T S A Z : Type 0} (P : A → ServedSource A T S → Type 0) (L : Watched Z → Type 0) (Q : ℕ → A → ServedSource A T S → Type 0) where
   -- when all are done this is left of each source, by number
   pub all_ended_from : (lookers : ℕ) (rs : List (Ring T S A)) (news : List (RingTask T S A Z)) (m : ℕ) → length news ≡ length (tasks_for {Z = Z} lookers rs) → DidEach P L (tasks_for lookers rs) news
-      → ((k : ℕ) (e : A) (d : ServedSource A T S) → slice_get news k ≡ Some (Task'.Served d) → P e d → Q (m + k) e d)
+      → ((k : ℕ) (e : A) (d : ServedSource A T S) → k < length rs → slice_get news k ≡ Some (Task'.Served d) → P e d → Q (m + k) e d)
       → AllBecameFrom Q m (map (λ r. r.source) rs) (ended_of news)
   all_ended_from lookers [] news m n did f =
       let mid : List (RingTask T S A Z) = replicate lookers Task'.Watch in
@@ -155,9 +155,9 @@ module _ {T S A Z : Type 0} (P : A → ServedSource A T S → Type 0) (L : Watch
   all_ended_from lookers (r ∷ rs) (Task'.Serve ring ∷ us) m n did f = absurd (did 0 (Task'.Serve r) (Task'.Serve ring) refl refl)
   all_ended_from lookers (r ∷ rs) (Task'.Served ended ∷ us) m n did f =
       let none : m + 0 ≡ m = omega arith in (
-        subst (λ (k : ℕ). Q k r.source ended) none (f 0 r.source ended refl (did 0 (Task'.Serve r) (Task'.Served ended) refl refl)),
+        subst (λ (k : ℕ). Q k r.source ended) none (f 0 r.source ended (omega arith) refl (did 0 (Task'.Serve r) (Task'.Served ended) refl refl)),
         all_ended_from lookers rs us (m + 1) (omega (arith, n)) (λ k t u was is. did (suc k) t u was is)
-            (λ k e d at h. let same : m + suc k ≡ (m + 1) + k = omega arith in subst (λ (j : ℕ). Q j e d) same (f (suc k) e d at h)),
+            (λ k e d lt at h. let same : m + suc k ≡ (m + 1) + k = omega arith in subst (λ (j : ℕ). Q j e d) same (f (suc k) e d (omega (arith, lt)) at h)),
       )
   all_ended_from lookers (r ∷ rs) (Task'.Watch ∷ us) m n did f = absurd (did 0 (Task'.Serve r) Task'.Watch refl refl)
   all_ended_from lookers (r ∷ rs) (Task'.Watched w ∷ us) m n did f = absurd (did 0 (Task'.Serve r) (Task'.Watched w) refl refl)

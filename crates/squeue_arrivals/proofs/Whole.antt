@@ -1,5 +1,5 @@
 -- A source whose ring is done is served.
-use Rattle.std.proofs.Common.{◌≡◌, ℕ, ◌+◌, ◌*◌, Some, List, length, slice_get, refl, ap, sym, ◌∙◌, subst, arith}
+use Rattle.std.proofs.Common.{◌≡◌, ℕ, ◌+◌, ◌*◌, ◌<◌, Some, List, length, slice_get, refl, ap, sym, ◌∙◌, subst, arith}
 use Rattle.std.specs.Prelude.{Contains, nat_eq, option_map}
 use Rattle.std.specs.List.{IsDistinct}
 use Rattle.std.proofs.lemmas.List.{length-map}
@@ -71,11 +71,12 @@ module _ {R W T S A O : Type 0} (begins : W → S → Type 0) (step : W → S �
 
 -- what is so of what a ring's pass has seen is so of the history at its squeue's end
 module _ {W T S A O : Type 0} (begins : W → S → Type 0) (step : W → S → T → S → Type 0) (origin : A → O) (given : A → List (ℕ × T)) (is_over : A → Type 0) (work : W) (most : ℕ) where
-  pub served_in : (at : Setting) (end : Ending) (k : ℕ) (source : A) (left : ServedSource A T S) → HasEnded end → end.setting ≡ at → number left.pass.value ≡ k → Begins (seen left.pass.value) end.history
+  pub served_in : (at : Setting) (end : Ending) (k : ℕ) (source : A) (left : ServedSource A T S) → HasEnded end → end.setting ≡ at → k < end.setting.rings → number left.pass.value ≡ k → Begins (seen left.pass.value) end.history
       → IsServedAt begins step origin given is_over work most at source left → IsServedIn begins step origin given is_over work most end k source left
-  served_in at end k source left ended setting number_is grows h =
+  served_in at end k source left ended setting ring number_is grows h =
       record {
         ended = ended;
+        ring = ring;
         by = record {
           served = h.served;
           stays = λ i part got.

@@ -1,5 +1,5 @@
 -- What is made of items that arrive with their keys.
-use Rattle.std.specs.Prelude.{◌≡◌, ◌≢◌, ℕ, ◌+◌, ◌*◌, ◌^◌, ◌≤◌, ◌==◌, nat_eq, Option, None, Some, List, [], ◌∷◌, ◌++◌, Contains, filter, length, map, slice_get}
+use Rattle.std.specs.Prelude.{◌≡◌, ◌≢◌, ℕ, ◌+◌, ◌*◌, ◌^◌, ◌<◌, ◌≤◌, ◌==◌, nat_eq, Option, None, Some, List, [], ◌∷◌, ◌++◌, Contains, filter, length, map, slice_get}
 use Rattle.std.specs.List.{IsDistinct}
 use Rattle.turn_gate.specs.Passes.{number, seen}
 use Rattle.perimeter_core.specs.History.{Element, Setting}
@@ -73,7 +73,8 @@ module _ {W T S A O : Type 0} (begins : W → S → Type 0) (step : W → S → 
   abbrev pub IsServedAt : Setting → A → ServedSource A T S → Type 0
   IsServedAt at source left = IsServedBy at (number left.pass.value) (seen left.pass.value) source left
 
-  -- and of the history of an ended squeue, which is legal and over, where the source's ring had this number
+  -- and of the history of an ended squeue, which is legal and over, where the source's ring was that of this number
   pub record IsServedIn (end : Ending) (k : ℕ) (source : A) (left : ServedSource A T S) : Type 0 where
     pub ended : HasEnded end
+    pub ring : k < end.setting.rings
     pub by : IsServedBy end.setting k end.history source left

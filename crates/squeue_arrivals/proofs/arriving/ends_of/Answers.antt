@@ -1,7 +1,13 @@
-use Rattle.std.proofs.Common.{◌≡◌, ◌∙◌, ◌++◌, ◌∷◌, [], ap, sym, arith, length, length-append, map, append-nil, rules}
+use Rattle.std.proofs.Common.{◌≡◌, ◌∙◌, List, ◌++◌, ◌∷◌, [], ap, sym, arith, append_assoc, length, length-append, map, append-nil, rules}
+use Rattle.std.proofs.lemmas.List.{map-append, reverse-append}
 use Rattle.std.specs.Prelude.{reverse}
-use Rattle.squeue_arrivals.proofs.WatchedGroups.{ends_more}
 use Rattle.squeue_arrivals.proofs.arriving.ends_of.Goals as goal
+
+-- one end more is kept, of those that were taken away last
+ends_more : {A B : Type 0} (f : A → B) (old left : List A) (x : A) (had now all : List B) → old ≡ left ++ x ∷ [] → now ≡ had ++ f x ∷ [] → all ≡ map f old ++ reverse had → all ≡ map f left ++ reverse now
+ends_more {A} {B} f old left x had now all split next is =
+    is ∙ (ap (λ (l : List A). map f l ++ reverse had) split ∙ (ap (λ (l : List B). l ++ reverse had) (map-append f left (x ∷ []))
+    ∙ (append_assoc (map f left) (f x ∷ []) (reverse had) ∙ ap (λ (l : List B). map f left ++ l) (sym (ap reverse next ∙ reverse-append had (f x ∷ []))))))
 
 pub ends-init : goal.ends-init
 ends-init g c =

@@ -1,9 +1,8 @@
 use Rattle.std.proofs.Common.{◌∙◌, sym, subst, ap, arith, length}
 use Rattle.std.proofs.lemmas.List.{length-map}
 use Rattle.ring_groups.specs.Groups.{AllOfGroups}
-use Rattle.ring_groups.proofs.Grouped.{of_groups}
+use Rattle.ring_groups.proofs.Grouped.{groups_map, groups_so, of_groups}
 use Rattle.squeue_arrivals.specs.Arriving.{IsServed, IsServedIn}
-use Rattle.squeue_arrivals.proofs.WatchedGroups.{groups_map, groups_so}
 use Rattle.squeue_arrivals.proofs.arriving.serve_arriving.Goals as goal
 
 pub ends_of-squeues-requires : goal.ends_of-squeues-requires

@@ -1,7 +1,6 @@
-use Rattle.ring_groups.proofs.Grouped.{of_groups}
+use Rattle.ring_groups.proofs.Grouped.{groups_so, of_each, of_groups}
 use Rattle.squeue_arrivals.specs.Arriving.{IsServed, IsServedIn}
 use Rattle.squeue_arrivals.specs.Watching.{SawLast}
-use Rattle.squeue_arrivals.proofs.WatchedGroups.{groups_so, of_each}
 use Rattle.squeue_arrivals.proofs.arriving.serve_watched.Goals as goal
 
 pub returns-clause-served : goal.returns-clause-served

@@ -3,10 +3,9 @@ use Rattle.std.specs.Prelude.{All}
 use Rattle.std.proofs.lemmas.Result.{IfOk-weaker}
 use Rattle.ring_groups.specs.declared.groups.Group.{Group}
 use Rattle.ring_groups.specs.Groups.{AllOfGroups, HaveEnded, MayServe, all_in, many_in}
-use Rattle.ring_groups.proofs.Grouped.{all_groups, few_ended, many_ends, whole_back}
+use Rattle.ring_groups.proofs.Grouped.{all_groups, few_ended, few_in, many_ends, whole_back}
 use Rattle.squeue_arrivals.specs.Watching.{ServedWith}
 use Rattle.squeue_arrivals.specs.declared.watching.WatchedEnd.{WatchedEnd}
-use Rattle.squeue_arrivals.proofs.WatchedGroups.{few_in}
 use Rattle.squeue_arrivals.specs.declared.served.ServedSource.{ServedSource}
 use Rattle.squeue_arrivals.proofs.arriving.serve_with.Given.{Over}
 use Rattle.squeue_arrivals.proofs.arriving.serve_with.Goals.{After-serve_groups}

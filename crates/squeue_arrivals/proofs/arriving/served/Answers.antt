@@ -1,8 +1,8 @@
 use Rattle.std.proofs.Common.{sym, subst}
 use Rattle.ring_groups.specs.Groups.{AllBecameFrom, before_in}
+use Rattle.ring_groups.proofs.Grouped.{became_from}
 use Rattle.squeue_arrivals.specs.Arriving.{IsServedIn}
 use Rattle.squeue_arrivals.specs.Watching.{ServedWith}
-use Rattle.squeue_arrivals.proofs.WatchedGroups.{became_from}
 use Rattle.squeue_arrivals.proofs.arriving.served.Goals as goal
 
 pub returns-in-Ok : goal.returns-in-Ok

@@ -94,11 +94,14 @@ returns-in-Ok-new_squeue-clause-served g c =
     let L = HasWatched g.X.KeySteps.begins g.X.KeySteps.step c.args.steps (g.V.Watches.says c.args.watcher.now) setting (g.V.Watches.many c.args.watcher.now) in
     let Q = IsServedIn g.X.KeySteps.begins g.X.KeySteps.step g.A.Arrivals.origin g.A.Arrivals.given g.A.Arrivals.is_over c.args.steps c.args.pool.now.places end in
     let news = tasks_in c.run_to_end-jobs.result.0.items in
+    let counted : c.len-count.result ≡ length c.args.sources.items = omega (arith, c.len-count.ensures, c.args.sources.ok.0) in
+    let rings : end.setting.rings ≡ length c.in_ok-keyed.rings.items = ap (λ s. s.rings) c.run_to_end-jobs.ensures.setting ∙ (c.in-Ok-new_squeue.ensures.serves.its_rings
+    ∙ (counted ∙ sym (as_many c.args.pool.now.places (first_of c.in_ok-keyed.keyed) c.args.sources.items c.in_ok-keyed.rings.items c.in_ok-keyed.ensures.rings))) in
     let all = all_ended_from P L Q (lookers_of c.args.watched) c.in_ok-keyed.rings.items news 0 (as_long g at) (done g at)
-    (λ k e d is h. let seen = c.run_to_end-jobs.ensures.seen k d is in
+    (λ k e d lt is h. let seen = c.run_to_end-jobs.ensures.seen k d is in
     let same : 0 + k ≡ k = omega arith in
     subst (λ n. Q n e d) (sym same) (served_in g.X.KeySteps.begins g.X.KeySteps.step g.A.Arrivals.origin g.A.Arrivals.given g.A.Arrivals.is_over c.args.steps c.args.pool.now.places setting end k e d
-    c.run_to_end-jobs.ensures.ended c.run_to_end-jobs.ensures.setting seen.0 seen.1 h)) in
+    c.run_to_end-jobs.ensures.ended c.run_to_end-jobs.ensures.setting (omega (arith, lt, rings)) seen.0 seen.1 h)) in
     let here = subst (λ es. AllBecameFrom Q 0 es c.gather-served.result.0.items) c.in_ok-keyed.ensures.rings.sources_are (subst (AllBecameFrom Q 0 _) (sym c.gather-served.ensures.served) all) in
     subst (λ e. AllBecameFrom (IsServedIn g.X.KeySteps.begins g.X.KeySteps.step g.A.Arrivals.origin g.A.Arrivals.given g.A.Arrivals.is_over c.args.steps c.args.pool.now.places e) 0 c.args.sources.items c.gather-served.result.0.items) (sym c.watched_end.ensures.end) here
 

@@ -1,0 +1,4 @@
+pub mod Rounds
+pub mod Sums
+pub mod Looked
+pub mod Brought

@@ -1,0 +1,4 @@
+pub mod Rounds
+pub mod Sources
+pub mod Counting
+pub mod Serving
