@@ -20,7 +20,9 @@ use Rattle.live_chats.specs.declared.ear.Ears.{Ears}
 use Rattle.live_chats.specs.declared.ear.Heard.{Heard}
 use Rattle.live_chats.specs.declared.item.ChatItem.{ChatItem}
 use Rattle.live_chats.specs.declared.seat.Seat.{Seat}
-use Rattle.live_chats.proofs.PlaceLemmas.{shown_chat}
+use Rattle.live_server.specs.Written.{HasSent}
+use Rattle.live_server.proofs.WrittenLemmas.{nothing_sent, sent_behind}
+use Rattle.live_chats.proofs.PlaceLemmas.{shown_chat, shown_writes}
 
 abbrev Entry : Type 0
 Entry = Tuple × Seat
@@ -43,7 +45,12 @@ module _ (o : Chats) (d e : Stays ChatItem ChatOf) (same : (k : ℕ) → sent_in
       let rest = listened_all cs next to more (omega (arith, room, grown, shown.took.room)) in (
         one.0 ∷ rest.0,
         rest.1 ∙ ap (λ (l : List (Option Heard)). l ++ rest.0) one.1 ∙ append_assoc from.heard.items (one.0 ∷ []) rest.0,
-        (next.out.items, heard_of_chat c from next shown one.0 from.out.items next.out.items one.2, rest.2),
+        (
+          next.out.items,
+          heard_of_chat c from next shown one.0 from.out.items next.out.items one.2,
+          (shown_writes o c d e from next shown (same c) from.out.items next.out.items shown.took.wrote).part,
+          rest.2,
+        ),
         rest.3 ∙ shown.took.room,
       )
 
@@ -69,14 +76,14 @@ module _ (st : Stays ChatItem ChatOf) where
   answers_count [] [] before after h = refl
   answers_count [] (o ∷ os) before after h = absurd h
   answers_count (e ∷ es) [] before after h = absurd h
-  answers_count (e ∷ es) (o ∷ os) before after (mid, one, more) = ap suc (answers_count es os mid after more)
+  answers_count (e ∷ es) (o ∷ os) before after (mid, one, wrote, more) = ap suc (answers_count es os mid after more)
 
   pub answers_at : (es : List Entry) (os : List (Option Heard)) (before after : List Datagram) → Answers es os before after
       → (k : ℕ) (e : Entry) (h : Heard) → slice_get es k ≡ Some e → slice_get os k ≡ Some (Some h) → (conn : Conn) × ((chat_at st e.1.place).conn ≡ Some conn) × (h.facts ≡ facts_of conn)
   answers_at [] os before after all k e h at its = absurd (none-some _ at)
   answers_at (f ∷ es) [] before after all k e h at its = absurd all
-  answers_at (f ∷ es) (o ∷ os) before after (mid, one, more) (suc k) e h at its = answers_at es os mid after more k e h at its
-  answers_at (f ∷ es) (o ∷ os) before after (mid, one, more) zero e h at its =
+  answers_at (f ∷ es) (o ∷ os) before after (mid, one, wrote, more) (suc k) e h at its = answers_at es os mid after more k e h at its
+  answers_at (f ∷ es) (o ∷ os) before after (mid, one, wrote, more) zero e h at its =
       let P : Option Heard → Type 0 = λ x. IfSome x (λ y. IsAnswer (chat_at st f.1.place) y before mid) in
       let answer : IsAnswer (chat_at st f.1.place) h before mid = subst P (same_Some _ _ its) one in
       (answer.conn, ap (λ (x : Entry). (chat_at st x.1.place).conn) (sym (same_Some _ _ at)) ∙ answer.its_conn, answer.facts)
@@ -87,5 +94,13 @@ module _ (st : Stays ChatItem ChatOf) where
   answers_sent [] (o ∷ os) before after h all = absurd h
   answers_sent (e ∷ es) [] before after h all = absurd h
   answers_sent (e ∷ es) (None ∷ os) before after h all = absurd (all zero refl)
-  answers_sent (e ∷ es) (Some h ∷ os) before after (mid, one, more) all =
+  answers_sent (e ∷ es) (Some h ∷ os) before after (mid, one, wrote, more) all =
       answers_sent es os mid after more (λ k. all (suc k)) ∙ ap (λ (l : List Datagram). l ++ flat_map sent_there es) one.sent ∙ append_assoc before (sent_there e) (flat_map sent_there es)
+
+  -- heard or not, some of what they sent went out
+  pub answers_partly : (es : List Entry) (os : List (Option Heard)) (before after : List Datagram) → Answers es os before after → HasSent before after (flat_map sent_there es)
+  answers_partly [] [] before after h = nothing_sent before after [] h
+  answers_partly [] (o ∷ os) before after h = absurd h
+  answers_partly (e ∷ es) [] before after h = absurd h
+  answers_partly (e ∷ es) (o ∷ os) before after (mid, one, wrote, more) =
+      sent_behind before mid after _ (sent_there e) (flat_map sent_there es) refl wrote (answers_partly es os mid after more)

@@ -1,5 +1,5 @@
 -- What a segment makes of the connection at a place of the table.
-use Rattle.std.proofs.Common.{◌≡◌, ℕ, zero, suc, ◌<◌, ◌≤◌, min, Bool, true, cond, None, Some, List, [], ◌∷◌, ◌++◌, length, slice_get, refl, sym, ap, ◌∙◌, arith, Global, Vec}
+use Rattle.std.proofs.Common.{◌≡◌, ℕ, zero, suc, ◌<◌, ◌≤◌, min, Bool, true, cond, None, Some, List, [], ◌∷◌, ◌++◌, length, slice_get, refl, sym, ap, subst, ◌∙◌, arith, Global, Vec}
 use Rattle.std.specs.List.{IsDistinct}
 use Rattle.std.specs.Map.{keys_of, lookup}
 use Rattle.std_collections.proofs.HashLookup.{IsFirst}
@@ -10,6 +10,7 @@ use Rattle.tcb_machine.specs.Limits.{last_time}
 use Rattle.live_server.specs.Acts.{emptied, is_over, meets}
 use Rattle.live_server.specs.PathMtu.{shortens}
 use Rattle.live_server.specs.Table.{Conns, conn_at, place_of, replaced, settled, tuple_eq, without, IsNew}
+use Rattle.live_server.specs.Written.{HasSent}
 use Rattle.live_server.specs.declared.acting.Datagram.{Datagram}
 use Rattle.live_server.specs.declared.conn.Conn.{Conn}
 use Rattle.live_server.specs.declared.conn.Met.{Met}
@@ -41,6 +42,10 @@ module _ (now iss : ℕ) (time : now ≤ last_time) (seg : Seg) (text : Vec ℕ 
       let least : min now last_time ≡ now = omega (arith, time) in
       λ j. met_by (meets (least j) iss seg (is_text j) t d) (chat_of t d)
 
+  -- memory was missing
+  pub meets_partly : (before after : List Datagram) → HasSent before after (hearing (Meets now iss seg text) (chat_of t d)).sent → HasSent before after (meets now iss seg bytes t d).sent
+  meets_partly before after h = subst (λ (c : ChatOf). HasSent before after c.sent) hears_is h
+
   module _ (i : ℕ) (m : Met) (was is : Conns) (before after : List Datagram) (met : MetAt (Meets now iss seg text) t d i m was is before after) where
     pub met_is : m ≡ (meets now iss seg bytes t d).met
     met_is = one (sym met.met ∙ ap (λ (c : ChatOf). c.met) hears_is)
@@ -64,6 +69,9 @@ module _ (seq most : ℕ) (t : Tuple) (d : Conn) where
   path_is : hearing (Shortens seq most) (chat_of t d) ≡ met_by (shortens seq most t d) (chat_of t d)
   unfolding hearing
   path_is = refl
+
+  pub path_partly : (before after : List Datagram) → HasSent before after (hearing (Shortens seq most) (chat_of t d)).sent → HasSent before after (shortens seq most t d).sent
+  path_partly before after h = subst (λ (c : ChatOf). HasSent before after c.sent) path_is h
 
   module _ (i : ℕ) (m : Met) (was is : Conns) (before after : List Datagram) (met : MetAt (Shortens seq most) t d i m was is before after) where
     pub path_met : m ≡ (shortens seq most t d).met

@@ -13,13 +13,15 @@ use Rattle.stream_stays.specs.Staying.{pushed_of}
 use Rattle.stream_stays.specs.Settling.{Collected, SameAt, SamePlaces, sent_in, WasCollected}
 use Rattle.live_chats.specs.Accounts.{pushed_at, pushed_in}
 use Rattle.live_chats.specs.Hearing.{ChatOf, hearing, hearing_all, nobody}
-use Rattle.live_chats.specs.Listening.{IsAnswer, Listens}
+use Rattle.live_chats.specs.Listening.{IsAnswer, Listens, Writes}
 use Rattle.live_chats.specs.Seating.{Begins, KeptBut, KeptOpen, chat_at}
 use Rattle.live_chats.specs.Telling.{IsFirst, Tells}
 use Rattle.live_chats.specs.declared.chats.Chats.{Chats}
 use Rattle.live_chats.specs.declared.ear.Ear.{Ear}
 use Rattle.live_chats.specs.declared.item.ChatItem.{ChatItem}
 use Rattle.live_chats.specs.declared.item.ChatItem.TheVariants.{Opens}
+use Rattle.live_server.specs.declared.acting.Datagram.{Datagram}
+use Rattle.live_server.proofs.WrittenLemmas.{nothing_sent}
 use Rattle.live_chats.proofs.HearLemmas.{hearing_all-append, items_tell}
 
 -- the same was pushed at a place
@@ -131,16 +133,31 @@ pub shown_chat : {V : Type 0} {takes : V → V → ℕ → ChatOf → Type 0} (o
 unfolding chat_at
 shown_chat o c d e from to shown sent here = items_tell o c shown.part shown.its_own here ∙ ap (λ (xs : List ChatItem). hearing_all xs nobody) (shown.all ∙ sym sent)
 
+-- what went out of it is some of what the chat sent
+pub shown_writes : {V : Type 0} {takes : V → V → ℕ → ChatOf → Type 0} (o : Chats) (c : ℕ) (d e : Stays ChatItem ChatOf) (from to : V)
+    (shown : WasCollected IsFirst Tells takes o from to c (sent_in (place_at d c))) → sent_in (place_at e c) ≡ sent_in (place_at d c)
+    → (before after : List Datagram) → Writes (state_of shown.part) before after → Writes (chat_at e c) before after
+shown_writes o c d e from to shown sent before after w = by (state_of shown.part).lost refl
+  where
+    by : (b : Bool) → (state_of shown.part).lost ≡ b → Writes (chat_at e c) before after
+    by true lost = record { lost = λ _. w.lost lost; part = nothing_sent before after _ (w.lost lost) }
+    by false here = subst (λ (x : ChatOf). Writes x before after) (shown_chat o c d e from to shown sent here) w
+
 -- who listened where one place was settled heard its chat
 pub listened : (o : Chats) (c : ℕ) (d e : Stays ChatItem ChatOf) (ts : List ℕ) (from to : Ear) → ts ≡ c ∷ [] → Collected IsFirst Tells Listens o d ts from to
     → ((k : ℕ) → sent_in (place_at e k) ≡ sent_in (place_at d k)) → Listens from to c (chat_at e c)
-listened o c d e ts from to one all sent h is =
+listened o c d e ts from to one all sent =
     let there : (next : Ear) × _ × (to ≡ next) = subst (λ l. Collected IsFirst Tells Listens o d l from to) one all in
     let shown = there.1 in
-    let answer = shown.took h (ap (λ (x : Ear). x.heard) (sym there.2) ∙ is) in
-    let its : state_of shown.part ≡ chat_at e c = shown_chat o c d e from there.0 shown (sent c) answer.here in
-    subst (λ (x : Ear). IsAnswer (chat_at e c) h from.out.items x.out.items) (sym there.2)
-    (subst (λ (x : ChatOf). IsAnswer x h from.out.items there.0.out.items) its answer)
+    record {
+      heard = λ h is. (
+          let answer = shown.took.heard h (ap (λ (x : Ear). x.heard) (sym there.2) ∙ is) in
+          let its : state_of shown.part ≡ chat_at e c = shown_chat o c d e from there.0 shown (sent c) answer.here in
+          subst (λ (x : Ear). IsAnswer (chat_at e c) h from.out.items x.out.items) (sym there.2)
+          (subst (λ (x : ChatOf). IsAnswer x h from.out.items there.0.out.items) its answer));
+      wrote = subst (λ (x : Ear). Writes (chat_at e c) from.out.items x.out.items) (sym there.2)
+          (shown_writes o c d e from there.0 shown (sent c) from.out.items there.0.out.items shown.took.wrote);
+    }
 
 -- a place was opened
 pub opened_so : (c : ℕ) (a b : Stays ChatItem ChatOf) → SameElsewhere c a b → (v : Vacant ChatItem ChatOf) (s : Stay ChatItem) → place_at a c ≡ Some (Vacant' v) → place_at b c ≡ Some (Open s)

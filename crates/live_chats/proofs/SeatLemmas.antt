@@ -63,6 +63,17 @@ heard_of x c t d ends conn here =
     let same : silent c ≡ chat_of t d = λ j. record { ends = ends j; conn = conn j; sent = []; met = None; lost = here j } in
     sym (hearing-silent x c) ∙ ap (hearing x) same
 
+-- so it is of the chat at a seat
+pub hears_there : (x : ChatItem) (st : Stays ChatItem ChatOf) (es : List Entry) (i : ℕ) (e : Entry) → slice_get es i ≡ Some e → IsSeated st e
+    → (t : Tuple) (d : Conn) → slice_get (conns_of st es) i ≡ Some (t, d) → hearing x (chat_at st e.1.place) ≡ hearing x (chat_of t d)
+hears_there x st es i e at its t d there =
+    let entry : (t, d) ≡ conn_of_seat st e = pair_is (sym there ∙ slice_get-map (conn_of_seat st) es i ∙ ap (λ (o : Option Entry). option_map (conn_of_seat st) o) at) in
+    heard_of x (chat_at st e.1.place) t d (its.ends ∙ ap (λ (y : Tuple × Conn). y.0) (sym entry))
+    (its.its_conn ∙ ap Some (ap conn_in (sym its.its_conn) ∙ ap (λ (y : Tuple × Conn). y.1) (sym entry))) (chat_here st e.1.place)
+  where
+    pair_is : Some (t, d) ≡ Some (conn_of_seat st e) → (t, d) ≡ conn_of_seat st e
+    pair_is p = cc
+
 -- the entry at a place, of the connections
 pub conns_at : (st : Stays ChatItem ChatOf) (es : List Entry) (i : ℕ) (e : Entry) → slice_get es i ≡ Some e → slice_get (conns_of st es) i ≡ Some (conn_of_seat st e)
 conns_at st es i e at = slice_get-map (conn_of_seat st) es i ∙ ap (λ (o : Option Entry). option_map (conn_of_seat st) o) at

@@ -1,9 +1,10 @@
 -- The seats of a table to which the time comes at once: where it is told, where something is learnt, and where those leave of which nothing was heard.
-use Rattle.std.proofs.Common.{◌≡◌, ◌≢◌, ℕ, zero, suc, ◌+◌, ◌<◌, ◌≤◌, ◌⊎◌, inl, inr, true, false, eqb, Option, None, Some, IfSome, IfNone, List, [], ◌∷◌, ◌++◌, length, map, take, slice_get, refl, sym, ap, subst, ◌∙◌, add-one, arith}
+use Rattle.std.proofs.Common.{◌≡◌, ◌≢◌, ℕ, zero, suc, ◌+◌, ◌<◌, ◌≤◌, ◌⊎◌, inl, inr, true, false, eqb, Option, None, Some, IfSome, IfNone, List, [], ◌∷◌, ◌++◌, length, map, drop, take, slice_get, refl, sym, ap, subst, ◌∙◌, add-one, arith}
 use Rattle.std.specs.List.{IsDistinct, flat_map}
 use Rattle.std.specs.Map.{keys_of}
 use Rattle.std.specs.Option.{option_map}
 use Rattle.std.proofs.lemmas.Bool.Decides.{eqb_tells, leb_tells}
+use Rattle.std.proofs.lemmas.Grind.{flat_map-append}
 use Rattle.std.proofs.lemmas.List.{length-append, length-take-le, take_all}
 use Rattle.std.proofs.lemmas.Option.{none-some, same_Some, slice_get-map, slice_get_past, slice_get_within}
 use Rattle.indexmap.specs.IndexMap.{set_value_at}
@@ -34,7 +35,9 @@ use Rattle.live_chats.specs.declared.ear.Heard.{Heard}
 use Rattle.live_chats.specs.declared.item.ChatItem.{ChatItem}
 use Rattle.live_chats.specs.declared.item.ChatItem.TheVariants.{Time}
 use Rattle.live_chats.specs.declared.seat.Seat.{Seat}
-use Rattle.live_chats.proofs.AnswerLemmas.{answers_at, answers_count, answers_sent}
+use Rattle.live_server.specs.Written.{HasSent}
+use Rattle.live_server.proofs.WrittenLemmas.{map_front, sent_of_front}
+use Rattle.live_chats.proofs.AnswerLemmas.{answers_at, answers_count, answers_partly, answers_sent}
 use Rattle.live_chats.proofs.HearLemmas.{time_keeps_ends}
 use Rattle.live_chats.proofs.ListLemmas.{entry_there, in_left_from, one_place}
 use Rattle.live_chats.proofs.SeatLemmas.{accounts_keys, chat_here, heard_of, left_distinct, left_length, same_entry, seated_kept, timed_conn, timed_sent}
@@ -246,6 +249,12 @@ took [] (suc i) k e at = absurd (none-some _ at)
 took (f ∷ es) (suc i) zero e at = omega arith
 took (f ∷ es) (suc i) (suc k) e at = omega (arith, took es i k e at)
 
+taken_from : (es : List Entry) (i k : ℕ) (e : Entry) → slice_get (take i es) k ≡ Some e → slice_get es k ≡ Some e
+taken_from es zero k e at = absurd (none-some _ at)
+taken_from [] (suc i) k e at = absurd (none-some _ at)
+taken_from (f ∷ es) (suc i) zero e at = at
+taken_from (f ∷ es) (suc i) (suc k) e at = taken_from es i k e at
+
 taken_at : (es : List Entry) (i k : ℕ) (e : Entry) → slice_get es k ≡ Some e → k < i → slice_get (take i es) k ≡ Some e
 taken_at [] i k e at lt = absurd (none-some _ at)
 taken_at (f ∷ es) zero k e at lt = absurd (omega (arith, lt))
@@ -391,6 +400,18 @@ module _ (measures : Measures) (now : ℕ) (a b : St) (es : List Entry) (os hs :
         answers_sent b (take x.count es) os before after x.answers (λ k is. all k (ap (λ (l : List (Option Heard)). slice_get l k) same_os ∙ is))
         ∙ ap (λ (l : List Datagram). before ++ l) (ap (flat_map (λ (e : Entry). (chat_at b e.1.place).sent)) (take_all x.count es all_told)
         ∙ all_told_sent measures now a b es (λ k f there. told_sent measures now x.time a b es x.count x.seated x.told k f there (omega (arith, slice_get_within es k f there, all_told))))
+
+  -- heard or not, what went out is some of what the time makes all of them send
+  pub some_sent : HasSent before after (flat_map (λ (c : Tuple × Conn). sent_by c.0 (ticked measures now c.1)) (conns_of a es))
+  some_sent =
+      let its = λ (c : Tuple × Conn). sent_by c.0 (ticked measures now c.1) in
+      let first = take x.count es in
+      let rest = drop x.count es in
+      sent_of_front before after _ (flat_map its (conns_of a first)) (flat_map its (conns_of a rest))
+      (ap (flat_map its) (map_front (conn_of_seat a) es x.count) ∙ flat_map-append its (conns_of a first) (conns_of a rest))
+      (subst (HasSent before after)
+      (all_told_sent measures now a b first (λ k f there. told_sent measures now x.time a b es x.count x.seated x.told k f (taken_from es x.count k f there) (took es x.count k f there)))
+      (answers_partly b first os before after x.answers))
 
   -- where some left
   pub some_spoilt : (c : St) (fs : List Entry) → ((k : ℕ) (e : Entry) → slice_get fs k ≡ Some e → (j : ℕ) × (f : Entry) × (slice_get (all_learnt hs es) j ≡ Some f) × (conn_of_seat c e ≡ conn_of_seat b f))

@@ -1,5 +1,5 @@
 -- What the table does with a segment, as steps.
-use Rattle.std.proofs.Common.{◌≡◌, ℕ, ◌<◌, Bool, true, false, cond, nat_lt, List, [], ◌∷◌, ◌++◌, length, Option, None, Some, bytes_eq, codes, refl, sym, ap, arith, not}
+use Rattle.std.proofs.Common.{◌≡◌, ℕ, ◌<◌, Bool, true, false, cond, nat_lt, List, [], ◌∷◌, ◌++◌, length, Option, None, Some, bytes_eq, codes, refl, sym, ap, arith, not, ◌&&◌}
 use Rattle.std.specs.Map.{lookup}
 use Rattle.std.specs.Option.{option_map_or}
 use Rattle.std.proofs.lemmas.Bool.{and_parts}
@@ -25,7 +25,7 @@ use Rattle.live_server.specs.Initial.{number_for}
 use Rattle.live_server.specs.Isolation.{conn_of, IsTable}
 use Rattle.live_server.specs.PathMtu.{path_told, shortens, text_in_mtu}
 use Rattle.live_server.specs.Services.{is_served_at}
-use Rattle.live_server.specs.Serving.{Outcome, ServerOf, addressed, becomes, comes, counting_path, echoes, fits, gives_way, goes_on, has_place, heeded, heeded_text, heeds, holding, is_echoed, is_waiting, judging, limited, makes_place, noting, numbered, on_datagram, on_other, on_packet, on_segment, on_too_long, opens as opening, overfull, passes_over, refused, sends_nothing, sends_of, served, shortens_at, takes_free, takes_place, time_to, turns_away, yielding, yields, yields_at, admits, obeys, on_protocol, refuses}
+use Rattle.live_server.specs.Serving.{Outcome, ServerOf, addressed, becomes, comes, counting_path, echoes, fits, gives_way, goes_on, has_place, heeded, heeded_text, heeds, holding, is_echoed, is_waiting, judging, limited, makes_place, noting, numbered, on_datagram, on_other, on_packet, on_segment, on_too_long, opens as opening, overfull, passes_over, refused, sends_nothing, sends_of, served, shortens_at, takes_free, takes_place, tells_counts, time_to, turns_away, yielding, yields, yields_at, admits, obeys, on_protocol, refuses}
 use Rattle.live_server.specs.Orders.{order_in}
 use Rattle.live_server.specs.Table.{conn_at, place_of, tuple_eq, IsNew}
 use Rattle.live_server.specs.declared.conn.Conn.{Conn}
@@ -268,25 +268,32 @@ other_right now (Some p) sv table =
     (record { shows = sent_shows sv echoing (echoes now p sv).sent refl; setting = refl; table = quiet_right sv echoing refl refl table })
     (quiet_counts sv _ refl refl table)
 
-obeyed_right : (text : List ℕ) (sv : ServerOf) → IsTable sv → IsRight sv [] (obeys text sv)
+sending_right : (sv : ServerOf) (o : Outcome) → o.server.conns ≡ sv.conns → o.server.setting ≡ sv.setting → IsTable sv → IsRight sv (sends o.sent ∷ []) o
+sending_right sv o same places table = record { shows = sent_shows sv o.server o.sent same; setting = places; table = quiet_right sv o.server same places table }
+
+obeyed_right : (now : ℕ) (u : Udp) (text : List ℕ) (sv : ServerOf) → IsTable sv → IsRight sv (sends (obeys now u text sv).sent ∷ []) (obeys now u text sv)
 unfolding obeys
-obeyed_right text sv table =
-    by (bytes_eq text (codes "drain"))
+obeyed_right now u text sv table =
+    by (bytes_eq text (codes "drain")) (bytes_eq text (codes "counts") && not sv.told)
   where
     drains : ServerOf
     drains = record sv { draining = true }
 
-    by : (b : Bool) → IsRight sv [] (cond b (sends_nothing drains) (passes_over sv))
-    by true = quiet_counts sv drains refl refl table
-    by false = quiet_counts sv (passes_over sv).server refl refl table
+    ordered : Bool → Bool → Outcome
+    ordered a b = cond a (sends_nothing drains) (cond b (tells_counts now u sv) (passes_over sv))
+
+    by : (a b : Bool) → IsRight sv (sends (ordered a b).sent ∷ []) (ordered a b)
+    by true b = sending_right sv (sends_nothing drains) refl refl table
+    by false true = sending_right sv (tells_counts now u sv) refl refl table
+    by false false = sending_right sv (passes_over sv) refl refl table
 
 protocol_right : (now : ℕ) (body : List ℕ) (sv : ServerOf) → IsTable sv → IsRight sv (way_protocol now body sv) (on_protocol now body sv)
 unfolding way_protocol on_protocol
 protocol_right now body sv table = by (order_in sv.setting body)
   where
-    by : (r : Option Udp) → IsRight sv (option_map_or (λ (u : Udp). []) r (way_other now (ping_in body) sv)) (option_map_or (λ (u : Udp). obeys (ordered_text u body) sv) r (on_other now (ping_in body) sv))
+    by : (r : Option Udp) → IsRight sv (option_map_or (λ (u : Udp). sends (obeys now u (ordered_text u body) sv).sent ∷ []) r (way_other now (ping_in body) sv)) (option_map_or (λ (u : Udp). obeys now u (ordered_text u body) sv) r (on_other now (ping_in body) sv))
     by None = other_right now (ping_in body) sv table
-    by (Some u) = obeyed_right (ordered_text u body) sv table
+    by (Some u) = obeyed_right now u (ordered_text u body) sv table
 
 pub packet_right : (now : ℕ) (body : List ℕ) (p : Packet) (sv : ServerOf) → IsTable sv → IsRight sv (way_packet now body p sv) (on_packet now body p sv)
 unfolding way_packet on_packet

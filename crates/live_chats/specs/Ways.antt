@@ -12,6 +12,7 @@ use Rattle.sq_base.specs.declared.kinds.Tuple.{Tuple}
 use Rattle.icmp_codec.specs.EchoRequest.{PingOf, ping_in}
 use Rattle.icmp_codec.specs.TooLong.{too_long_in}
 use Rattle.icmp_codec.specs.declared.too_long.TooLong.{TooLong}
+use Rattle.udp_codec.specs.ReadAgain.{text_in as ordered_text}
 use Rattle.live_server.specs.Acts.{is_over, sent_by, no_measures}
 use Rattle.live_server.specs.Addresses.{is_for_us, is_to_us}
 use Rattle.live_server.specs.Frames.{FrameOf, on_frame, serves_frames}
@@ -21,7 +22,7 @@ use Rattle.live_server.specs.Leaving.{is_leaving, shed_ends}
 use Rattle.live_server.specs.PathMtu.{text_in_mtu}
 use Rattle.live_server.specs.Orders.{order_in}
 use Rattle.live_server.specs.Services.{is_served_at}
-use Rattle.live_server.specs.Serving.{Outcome, ServerOf, echoes, has_place, heeded, heeded_text, is_echoed, is_waiting, limited, makes_place, measures_of}
+use Rattle.live_server.specs.Serving.{Outcome, ServerOf, echoes, has_place, heeded, heeded_text, is_echoed, is_waiting, limited, makes_place, measures_of, obeys}
 use Rattle.live_server.specs.Serving.{noting, numbered, refused, served, time_to, yields}
 use Rattle.live_server.specs.Table.{Conns, all_reached, conn_at, place_of, without_over}
 use Rattle.live_server.specs.declared.conn.Conn.{Conn}
@@ -79,7 +80,7 @@ way_other now None sv = []
 way_other now (Some p) sv = if is_echoed p sv then sends (echoes now p sv).sent ∷ [] else []
 
 unfoldable pub way_protocol : ℕ → List ℕ → ServerOf → List Step
-way_protocol now body sv = option_map_or (λ u. []) (order_in sv.setting body) (way_other now (ping_in body) sv)
+way_protocol now body sv = option_map_or (λ u. sends (obeys now u (ordered_text u body) sv).sent ∷ []) (order_in sv.setting body) (way_other now (ping_in body) sv)
 
 unfoldable pub way_packet : ℕ → List ℕ → Packet → ServerOf → List Step
 way_packet now body (packet.Segment s) sv = way_addressed now s (text_in s body) sv

@@ -1,7 +1,8 @@
 //! What is heard of chats where their places are settled.
 
-ghost use Rattle.std.specs.Prelude.{◌≡◌, ◌++◌, IfOk, IfSome, OnOk};
-ghost use Rattle.live_chats.specs.Listening.{IsAnswer, Listens, ListensOn};
+ghost use Rattle.std.specs.Prelude.{◌≡◌, ◌++◌, IfOk, IfSome, OnErr, OnOk};
+ghost use Rattle.live_chats.specs.Listening.{IsAnswer, Listens, ListensOn, Writes};
+ghost use Rattle.live_server.specs.Written.{HasSent};
 
 use crate::chat::Chat;
 use crate::chats::Chats;
@@ -18,7 +19,7 @@ pub struct Heard {
 }
 
 /// Who listens where a place is settled: what was sent at the last item goes behind the datagrams that are there. Nothing is heard where the
-/// chat is lost, or where memory is missing for what was sent.
+/// chat is lost, or where memory is missing for what was sent, of which some went out then.
 #[derive(Drop)]
 pub struct Ear {
     pub alloc: Global,
@@ -55,7 +56,8 @@ impl Collects<Chats> for Ears {
 
 /// What a chat tells of its last item; what it sent goes behind the datagrams that are there.
 fn listen(alloc: Global, chat: &Chat, out: &mut Vec<Datagram>) -> Option<Heard>
-    ensures { IfSome result (λ h. IsAnswer chat.now h out.old.items out.new.items) }
+    ensures answer { IfSome result (λ h. IsAnswer chat.now h out.old.items out.new.items) }
+    ensures wrote { Writes chat.now out.old.items out.new.items }
 {
     if chat.is_lost() {
         return None;
@@ -75,7 +77,8 @@ fn listen(alloc: Global, chat: &Chat, out: &mut Vec<Datagram>) -> Option<Heard>
 
 /// Copies of these datagrams go behind those that are there.
 fn copy_all(alloc: Global, sent: &[Datagram], out: &mut Vec<Datagram>) -> Result<(), AllocError>
-    ensures { OnOk result (out.new.items ≡ out.old.items ++ sent.now) }
+    ensures sent { OnOk result (out.new.items ≡ out.old.items ++ sent.now) }
+    ensures wrote { OnErr result (HasSent out.old.items out.new.items sent.now) }
 {
     for datagram in sent {
         out.push(copied(alloc, datagram)?)?;

@@ -8,6 +8,7 @@ ghost use Rattle.squeue_state.specs.Naming.{setting_of};
 ghost use Rattle.stream_stays.specs.Places.{IsOpen, Knows, chain_of, life_of, places_of, touched_of};
 ghost use Rattle.live_chats.specs.Accounts.{HasEndedStay, HasRenewedStay, leaves_at, pushed_at};
 ghost use Rattle.live_chats.specs.Hearing.{hearing};
+ghost use Rattle.live_server.specs.Written.{HasSent};
 ghost use Rattle.live_chats.specs.Listening.{AreAnswers, IsAnswer, Listens};
 ghost use Rattle.live_chats.specs.Seating.{Begins, IsSettled, KeptBut, KeptOpen, chat_at};
 ghost use Rattle.live_chats.specs.Telling.{IsFirst, Tells};
@@ -84,6 +85,7 @@ impl<H: Wait + Drop, W: Wait> Line<'_, Places<Streams<Chats, H>>, W> {
         ensures pushed { result.1 ≡ true → pushed_at stays.new c ≡ pushed_at stays.old c + 1 }
         ensures told { result.1 ≡ true → (chat_at stays.new c ≡ hearing item (chat_at stays.old c)) × Listens ear.old ear.new c (chat_at stays.new c) }
         ensures refused { result.1 ≡ false → chat_at stays.new c ≡ chat_at stays.old c }
+        ensures silent { result.1 ≡ false → ear.new.out.items ≡ ear.old.out.items }
     {
         match push_at(self.squeue, &pass, stays, c, item) {
             Err(_) => return (pass, false),
@@ -118,6 +120,7 @@ impl<H: Wait + Drop, W: Wait> Line<'_, Places<Streams<Chats, H>>, W> {
         ensures chat { (chat_at stays.new c ≡ hearing item (chat_at stays.old c)) ⊎ (chat_at stays.new c ≡ chat_at stays.old c) }
         ensures heard { IfSome result.1 (λ h. (chat_at stays.new c ≡ hearing item (chat_at stays.old c))
             × IsAnswer (chat_at stays.new c) h out.old.items out.new.items) }
+        ensures wrote { HasSent out.old.items out.new.items (hearing item (chat_at stays.old c)).sent }
     {
         let mut ear = Ear {
             alloc,

@@ -15,6 +15,7 @@ ghost use Rattle.stream_stays.specs.Places.{IsOpen, Knows, life_of, touched_of};
 ghost use Rattle.live_server.specs.Acts.{sent_by, ticked};
 ghost use Rattle.live_server.specs.Table.{all_reached};
 ghost use Rattle.live_server.specs.Told.Told.{hears};
+ghost use Rattle.live_server.specs.Written.{HasSent};
 ghost use Rattle.live_chats.specs.Accounts.{SeatsWereTold};
 ghost use Rattle.live_chats.specs.Seating.{AreTold, HasHeardSeats, HasSeats, IsSettled, KeptBut, Spoils, all_learnt, conn_of_seat};
 ghost use Rattle.live_chats.specs.Seating.{conns_of, left_at, places_in};
@@ -60,6 +61,8 @@ pub(crate) fn reach_each<H: Wait + Drop, W: Wait>(
         → SeatsWereTold limits_of line.now.squeue.now pass result.0 stays.old stays.new seats.old.entries
         seats.new.entries (map hears (keys_of seats.old.entries)) }
     ensures lost { result.1 ≡ false → Spoils measures now (conns_of stays.old seats.old.entries) (conns_of stays.new seats.new.entries) }
+    ensures wrote { result.1 ≡ false
+        → HasSent out.old.items out.new.items (flat_map (λ c. sent_by c.0 (ticked measures now c.1)) (conns_of stays.old seats.old.entries)) }
 {
     let pass = renew_all(line, alloc, pass, stays, seats);
     reach_now(line, alloc, pass, stays, seats, free, measures, now, out)
@@ -87,6 +90,8 @@ fn reach_now<H: Wait + Drop, W: Wait>(
         → SeatsWereTold limits_of line.now.squeue.now pass result.0 stays.old stays.new seats.old.entries
         seats.new.entries (map hears (keys_of seats.old.entries)) }
     ensures lost { result.1 ≡ false → Spoils measures now (conns_of stays.old seats.old.entries) (conns_of stays.new seats.new.entries) }
+    ensures wrote { result.1 ≡ false
+        → HasSent out.old.items out.new.items (flat_map (λ c. sent_by c.0 (ticked measures now c.1)) (conns_of stays.old seats.old.entries)) }
 {
     if seats.is_empty() {
         return (pass, true);

@@ -8,9 +8,11 @@ ghost use Rattle.sq_base.specs.declared.kinds.Tuple.{Tuple};
 ghost use Rattle.indexmap.specs.IndexMap.{set_value_at};
 ghost use Rattle.live_server.specs.Table.{without, IsNew};
 ghost use Rattle.live_server.specs.Told.Told.{begins, hears};
+ghost use Rattle.live_server.specs.Written.{HasSent};
 ghost use Rattle.live_server.specs.declared.conn.Conn.{Conn};
 ghost use Rattle.live_chats.specs.Accounts.{HasEndedStay, SeatsWereTold, pushed_at};
-ghost use Rattle.live_chats.specs.Seating.{HasSeats, HasSeatsBut, HeardAt, Judges, KeepsEnds, MetAt, conns_of, left_at, IsSettled, KeptBut};
+ghost use Rattle.live_chats.specs.Hearing.{hearing};
+ghost use Rattle.live_chats.specs.Seating.{HasSeats, HasSeatsBut, HeardAt, Judges, KeepsEnds, MetAt, chat_of, conns_of, left_at, IsSettled, KeptBut};
 ghost use Rattle.stream_stays.specs.Places.{IsOpen, life_of};
 ghost use Rattle.live_chats.specs.declared.seat.Seat.{Seat};
 
@@ -129,6 +131,8 @@ fn hear_at<H: Wait + Drop, W: Wait>(
     ensures heard { IfSome result.1 (λ h. (t : Tuple) (d : Conn) → slice_get (conns_of stays.old seats.old.entries) i ≡ Some (t, d)
         → HeardAt item t d i h (conns_of stays.old seats.old.entries) (conns_of stays.new seats.new.entries) out.old.items out.new.items) }
     ensures lost { IfNone result.1 (conns_of stays.new seats.new.entries ≡ without i (conns_of stays.old seats.old.entries)) }
+    ensures wrote { IfNone result.1 ((t : Tuple) (d : Conn) → slice_get (conns_of stays.old seats.old.entries) i ≡ Some (t, d)
+        → HasSent out.old.items out.new.items (hearing item (chat_of t d)).sent) }
     ensures told { IfSome result.1 (λ _. (t : Tuple) (seat : Seat) → slice_get seats.old.entries i ≡ Some (t, seat)
         → SeatsWereTold limits_of line.now.squeue.now pass result.0 stays.old stays.new seats.old.entries seats.new.entries (hears t ∷ [])) }
 {
@@ -156,6 +160,8 @@ fn hear_now<H: Wait + Drop, W: Wait>(
     ensures heard { IfSome result.1 (λ h. (t : Tuple) (d : Conn) → slice_get (conns_of stays.old seats.old.entries) i ≡ Some (t, d)
         → HeardAt item t d i h (conns_of stays.old seats.old.entries) (conns_of stays.new seats.new.entries) out.old.items out.new.items) }
     ensures lost { IfNone result.1 (conns_of stays.new seats.new.entries ≡ without i (conns_of stays.old seats.old.entries)) }
+    ensures wrote { IfNone result.1 ((t : Tuple) (d : Conn) → slice_get (conns_of stays.old seats.old.entries) i ≡ Some (t, d)
+        → HasSent out.old.items out.new.items (hearing item (chat_of t d)).sent) }
     ensures told { IfSome result.1 (λ _. (t : Tuple) (seat : Seat) → slice_get seats.old.entries i ≡ Some (t, seat)
         → SeatsWereTold limits_of line.now.squeue.now pass result.0 stays.old stays.new seats.old.entries seats.new.entries (hears t ∷ [])) }
 {
@@ -199,6 +205,8 @@ pub(crate) fn meet_at<H: Wait + Drop, W: Wait>(
     ensures met { IfSome result.1 (λ m. (t : Tuple) (d : Conn) → slice_get (conns_of stays.old seats.old.entries) i ≡ Some (t, d)
         → MetAt item t d i m (conns_of stays.old seats.old.entries) (conns_of stays.new seats.new.entries) out.old.items out.new.items) }
     ensures lost { IfNone result.1 (conns_of stays.new seats.new.entries ≡ without i (conns_of stays.old seats.old.entries)) }
+    ensures wrote { IfNone result.1 ((t : Tuple) (d : Conn) → slice_get (conns_of stays.old seats.old.entries) i ≡ Some (t, d)
+        → HasSent out.old.items out.new.items (hearing item (chat_of t d)).sent) }
     ensures told { IfSome result.1 (λ _. (t : Tuple) (seat : Seat) → slice_get seats.old.entries i ≡ Some (t, seat)
         → SeatsWereTold limits_of line.now.squeue.now pass result.0 stays.old stays.new seats.old.entries seats.new.entries (hears t ∷ [])) }
 {

@@ -7,7 +7,7 @@ use Rattle.live_rings.specs.declared.words.Layout.{Layout}
 
 -- a server of a stream to which nothing came
 abbrev pub server_of : Layout → ServerOf
-server_of s = record { conns = []; waiting = []; held = 0; pings = 0; turned = Nobody; draining = false; setting = s.setting; secret = s.secret.0; counts = no_counts }
+server_of s = record { conns = []; waiting = []; held = 0; pings = 0; told = false; turned = Nobody; draining = false; setting = s.setting; secret = s.secret.0; counts = no_counts }
 
 -- there are squeues, and an owner processes something
 pub record IsInRange (s : Layout) : Type 0 where

@@ -1,9 +1,10 @@
 //! Standard input and output as a TUN device: each read is a datagram, and each write is one.
 
-ghost use Rattle.std.specs.Prelude.{◌≡◌, ◌+◌, ◌-◌, ◌/◌, ◌<◌, ◌≤◌, ◌^◌, min, length, OnErr, OnOk};
+ghost use Rattle.std.specs.Prelude.{◌≡◌, ◌+◌, ◌-◌, ◌/◌, ◌<◌, ◌≤◌, ◌^◌, [], min, length, OnErr, OnOk};
 ghost use Rattle.std.specs.Duration.{as_nanos};
 ghost use Rattle.tcb_machine.specs.Limits.{last_time};
 ghost use Rattle.live_server.specs.Isolation.{KeepsStart};
+ghost use Rattle.live_server.specs.Written.{HasSent};
 ghost use Rattle.live_run.specs.Rounds.{round, ticked_by, told_after, AppendsEach, LosesAtRound};
 
 use crate::fault::Fault;
@@ -105,7 +106,7 @@ fn told_after(told: u64, looked: u64, time: u64) -> u64
 }
 
 /// A datagram that was read: the time comes to every connection first, where that is due. What is sent takes the place of what
-/// was. An error says that memory was missing.
+/// was. An error says that memory was missing: then some of it is.
 fn round(
     server: &mut Server,
     alloc: Global,
@@ -118,6 +119,7 @@ fn round(
     requires body { length body.now < 2 ^ 32 }
     ensures server { OnOk result (server.new ≡ (round now ticked.old body.now server.old).server) }
     ensures sent { OnOk result (sent.new.items ≡ (round now ticked.old body.now server.old).sent) }
+    ensures wrote { OnErr result (HasSent [] sent.new.items (round now ticked.old body.now server.old).sent) }
     ensures ticked { ticked.new ≡ ticked_by now ticked.old }
     ensures lost { OnErr result (LosesAtRound now ticked.old body.now server.old server.new) }
     ensures start { OnErr result (KeepsStart server.old server.new) }

@@ -15,6 +15,7 @@ use Rattle.live_server.specs.Serving.{Outcome, ServerOf, arrives, becomes, comes
 use Rattle.live_server.specs.Table.{Conns, conn_at, place_of, reached_until, replaced, settled, tuple_eq, without, IsNew}
 use Rattle.live_server.specs.Told.{Told, told_arriving, told_coming, told_its_own, told_opening, told_segment}
 use Rattle.live_server.specs.Told.Told.{hears}
+use Rattle.live_server.specs.Written.{HasSent}
 use Rattle.live_server.specs.declared.acting.Datagram.{Datagram}
 use Rattle.live_server.specs.declared.conn.Conn.{Conn}
 use Rattle.live_server.specs.declared.conn.Judged.{Judged}
@@ -25,6 +26,7 @@ use Rattle.live_server.specs.declared.counts.Counts.{Counts}
 use Rattle.live_server.proofs.LossLemmas.{lost_one}
 use Rattle.live_server.proofs.MeetLemmas.{emptied_over, meets_by}
 use Rattle.live_server.proofs.TableLemmas.{conn_written, place_written, within_at}
+use Rattle.live_server.proofs.WrittenLemmas.{all_sent, sent_behind, sent_of_front}
 
 pub map_ok : {X E : Type 0} (r : Result X E) (P Q : Type 0) → (P → Q) → OnOk r P → OnOk r Q
 map_ok (Ok x) P Q f h = f h
@@ -204,6 +206,16 @@ module _ (now : ℕ) (s : Seg) (text : List ℕ) (sv : ServerOf) (i : ℕ) (at :
   pub judged_told : (j : Judged) → judges j ≡ m.met → hears t ∷ [] ≡ told_arriving now s text sv
   judged_told j met = heard_on (is_whole j met (is_over r) refl)
 
+  -- memory was missing as it met it
+  pub met_partly : (start told : List Datagram) → HasSent start told m.sent → HasSent start told (arrives now s text sv).sent
+  met_partly start told h = by (is_over r) refl
+    where
+      by : (b : Bool) → is_over r ≡ b → HasSent start told (arrives now s text sv).sent
+      by true e =
+          sent_of_front start told _ (sent_by t r) (comes now s text timed).sent arrives_sent
+          (subst (HasSent start told) (ap (λ (x : Meeting). x.sent) (met_by true e)) h)
+      by false e = subst (HasSent start told) (told_on e) h
+
   -- where the time ended it, the segment opens a new one
   module _ (met : Gone ≡ m.met) (after : ServerOf) (table : after ≡ record sv { conns = replaced i m.conn sv.conns }) where
     ended : m ≡ nobody
@@ -231,6 +243,11 @@ module _ (now : ℕ) (s : Seg) (text : List ℕ) (sv : ServerOf) (i : ℕ) (at :
           last ∙ (λ j. (first ∙ ap (λ (x : Meeting). start ++ x.sent) ended) j ++ (opens_there j).sent)
           ∙ append_assoc start (sent_by t r) (comes now s text timed).sent
           ∙ ap (λ l. start ++ l) (sym arrives_sent)
+
+      pub gone_partly : (start mid told : List Datagram) → mid ≡ start ++ m.sent → HasSent mid told (opens now s text after).sent → HasSent start told (arrives now s text sv).sent
+      gone_partly start mid told first h =
+          sent_behind start mid told _ (sent_by t r) (comes now s text timed).sent arrives_sent
+          (all_sent start mid _ (first ∙ ap (λ (x : Meeting). start ++ x.sent) ended)) (subst (λ (o : Outcome). HasSent mid told o.sent) opens_there h)
 
 -- ---- what is noted before the time
 module _ (now : ℕ) (t : Tuple) (text : List ℕ) (sv : ServerOf) where

@@ -32,7 +32,7 @@ use Rattle.live_server.specs.Draining.{EachCloses, NoneOpens, OpensNone}
 use Rattle.live_server.specs.Orders.{order_in}
 use Rattle.live_server.specs.PathMtu.{shortens, text_in_mtu}
 use Rattle.live_server.specs.Services.{is_served_at}
-use Rattle.live_server.specs.Serving.{ServerOf, addressed, admits, becomes, comes, counting_path, echoes, fits, goes_on, heeded, heeded_text, heeds, holding, is_echoed, judging, limited, measures_of, noting, obeys, on_datagram, on_other, on_packet, on_protocol, on_segment, on_too_long, opens, overfull, passes_over, refuses, sends_nothing, served, shortens_at, time_to}
+use Rattle.live_server.specs.Serving.{ServerOf, addressed, admits, becomes, comes, counting_path, echoes, fits, goes_on, heeded, heeded_text, heeds, holding, is_echoed, judging, limited, measures_of, noting, obeys, on_datagram, on_other, on_packet, on_protocol, on_segment, on_too_long, opens, overfull, passes_over, refuses, sends_nothing, served, shortens_at, tells_counts, time_to}
 use Rattle.live_server.specs.Table.{all_reached, conn_at, place_of, tuple_eq}
 use Rattle.live_server.specs.declared.conn.Conn.{Conn}
 use Rattle.live_server.specs.declared.conn.Judged.{Judged}
@@ -133,21 +133,22 @@ other_none now (Some p) sv e = by (is_echoed p sv)
     by true = quiet sv (echoes now p sv).server e refl refl refl
     by false = quiet sv (passes_over sv).server e refl refl refl
 
-obeyed_none : (text : List ℕ) (sv : ServerOf) → sv.draining ≡ true → OpensNone sv (obeys text sv).server
+obeyed_none : (now : ℕ) (u : Udp) (text : List ℕ) (sv : ServerOf) → sv.draining ≡ true → OpensNone sv (obeys now u text sv).server
 unfolding obeys
-obeyed_none text sv e = by (bytes_eq text (codes "drain"))
+obeyed_none now u text sv e = by (bytes_eq text (codes "drain")) (bytes_eq text (codes "counts") && not sv.told)
   where
-    by : (b : Bool) → OpensNone sv (cond b (sends_nothing (record sv { draining = true })) (passes_over sv)).server
-    by true = record { opened = refl; fewer = omega arith; drains = refl }
-    by false = quiet sv (passes_over sv).server e refl refl refl
+    by : (a b : Bool) → OpensNone sv (cond a (sends_nothing (record sv { draining = true })) (cond b (tells_counts now u sv) (passes_over sv))).server
+    by true b = record { opened = refl; fewer = omega arith; drains = refl }
+    by false true = quiet sv (tells_counts now u sv).server e refl refl refl
+    by false false = quiet sv (passes_over sv).server e refl refl refl
 
 protocol_none : (now : ℕ) (body : List ℕ) (sv : ServerOf) → sv.draining ≡ true → OpensNone sv (on_protocol now body sv).server
 unfolding on_protocol
 protocol_none now body sv e = by (order_in sv.setting body)
   where
-    by : (r : Option Udp) → OpensNone sv (option_map_or (λ u. obeys (ordered_text u body) sv) r (on_other now (ping_in body) sv)).server
+    by : (r : Option Udp) → OpensNone sv (option_map_or (λ u. obeys now u (ordered_text u body) sv) r (on_other now (ping_in body) sv)).server
     by None = other_none now (ping_in body) sv e
-    by (Some u) = obeyed_none (ordered_text u body) sv e
+    by (Some u) = obeyed_none now u (ordered_text u body) sv e
 
 shortened_none : (x : TooLong) (i : ℕ) (sv : ServerOf) → place_of x.ends sv.conns ≡ Some i → sv.draining ≡ true → OpensNone sv (shortens_at x i sv).server
 unfolding shortens_at

@@ -1,4 +1,5 @@
 pub mod NumberLemmas
+pub mod WrittenLemmas
 pub mod ConnLemmas
 pub mod TableLemmas
 pub mod MeetLemmas
@@ -26,3 +27,5 @@ pub mod PathLemmas
 pub mod OneLemmas
 pub mod TightLemmas
 pub mod DrainLemmas
+pub mod HostLemmas
+pub mod CountsLemmas

@@ -1,13 +1,15 @@
 -- What a segment meets at a connection, behind the time.
-use Rattle.std.proofs.Common.{◌≡◌, ℕ, Bool, true, false, cond, List, ◌++◌, refl, sym, ap, ◌∙◌, true≢false, append_assoc}
+use Rattle.std.proofs.Common.{◌≡◌, ℕ, Bool, true, false, cond, List, ◌++◌, refl, sym, ap, subst, ◌∙◌, true≢false, append_assoc}
 use Rattle.segment_codec.specs.declared.packet.Seg.{Seg}
 use Rattle.sq_base.specs.declared.kinds.Tuple.{Tuple}
 use Rattle.live_server.specs.Acts.{Meeting, emptied, is_over, judged, meets, reached, receives, sent_by}
+use Rattle.live_server.specs.Written.{HasSent}
 use Rattle.live_server.specs.declared.acting.Datagram.{Datagram}
 use Rattle.live_server.specs.declared.conn.Conn.{Conn}
 use Rattle.live_server.specs.declared.conn.Judged.{Judged}
 use Rattle.live_server.specs.declared.conn.Met.{Met}
 use Rattle.live_server.specs.declared.conn.Met.TheVariants.{Gone, Judged as judges}
+use Rattle.live_server.proofs.WrittenLemmas.{all_sent, sent_behind, sent_of_front}
 
 pub emptied_twice : (c : Conn) → emptied (emptied c) ≡ emptied c
 unfolding emptied
@@ -46,6 +48,14 @@ module _ (now iss : ℕ) (s : Seg) (text : List ℕ) (t : Tuple) (c : Conn) wher
       by true e = ap (λ (m : Meeting). is_over (emptied m.conn)) (meets_by true e) ∙ e
       by false e = absurd (true≢false (sym (ap is_gone (sym (ap (λ (m : Meeting). m.met) (meets_by false e)) ∙ gone))))
 
+  -- memory was missing for what the time makes it send
+  pub timed_partly : (start told : List Datagram) → HasSent start told (sent_by t (reached now c)) → HasSent start told (meets now iss s text t c).sent
+  timed_partly start told h = by (is_over here) refl
+    where
+      by : (b : Bool) → is_over here ≡ b → HasSent start told (meets now iss s text t c).sent
+      by true e = subst (HasSent start told) (ap (λ (m : Meeting). m.sent) (sym (meets_by true e))) h
+      by false e = sent_of_front start told _ (sent_by t (reached now c)) (sent_by t (receives now iss s text here)) (ap (λ (m : Meeting). m.sent) (meets_by false e)) h
+
   -- the time came
   module _ (after : Conn) (timed : after ≡ here) (start told : List Datagram) (sent : told ≡ start ++ sent_by t (reached now c)) where
     over_by : (b : Bool) → is_over after ≡ b → meets now iss s text t c ≡ cond b nobody somebody
@@ -71,3 +81,9 @@ module _ (now iss : ℕ) (s : Seg) (text : List ℕ) (t : Tuple) (c : Conn) wher
         is ∙ (λ j. sent j ++ sent_by t (receives now iss s text (timed j)))
         ∙ append_assoc start (sent_by t (reached now c)) (sent_by t (receives now iss s text here))
         ∙ ap (λ (m : Meeting). start ++ m.sent) (sym (over_by false e))
+
+    -- and memory was missing for what the segment makes it send
+    pub judged_partly : is_over after ≡ false → (all : List Datagram) → HasSent told all (sent_by t (receives now iss s text after)) → HasSent start all (meets now iss s text t c).sent
+    judged_partly e all h =
+        sent_behind start told all _ (sent_by t (reached now c)) (sent_by t (receives now iss s text here)) (ap (λ (m : Meeting). m.sent) (over_by false e))
+        (all_sent start told _ sent) (subst (λ (x : Conn). HasSent told all (sent_by t (receives now iss s text x))) timed h)

@@ -7,12 +7,14 @@ pub mod Services
 pub mod Acts
 pub mod PathMtu
 pub mod Counting
+pub mod CountsText
 pub mod Table
 pub mod Leaving
 pub mod Candidates
 pub mod Facts
 pub mod Orders
 pub mod Serving
+pub mod Written
 pub mod Isolation
 pub mod Promises
 pub mod Draining

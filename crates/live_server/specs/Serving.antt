@@ -1,5 +1,5 @@
 -- What a server makes of a datagram and of the time.
-use Rattle.std.specs.Prelude.{ℕ, ◌+◌, ◌-◌, ◌/◌, ◌^◌, ◌==◌, min, nat_le, nat_lt, ◌&&◌, not, bit_and, Bool, true, Option, None, Some, unwrap_or, List}
+use Rattle.std.specs.Prelude.{ℕ, ◌+◌, ◌-◌, ◌/◌, ◌^◌, ◌==◌, min, nat_le, nat_lt, ◌&&◌, not, bit_and, Bool, true, false, Option, None, Some, unwrap_or, List}
 use Rattle.std.specs.Prelude.{[], ◌∷◌, ◌++◌, bytes_eq, codes, length, if◌then◌else◌}
 use Rattle.std.specs.List.{flat_map}
 use Rattle.std.specs.Option.{option_map_or}
@@ -13,6 +13,8 @@ use Rattle.tcb_machine.specs.Limits.{default_mss}
 use Rattle.sq_base.specs.declared.kinds.Link.TheVariants.{RawIp}
 use Rattle.sq_base.specs.declared.kinds.Tuple.{Tuple}
 use Rattle.udp_codec.specs.ReadAgain.{text_in as ordered_text}
+use Rattle.udp_codec.specs.UdpBytes.{udp_bytes}
+use Rattle.udp_codec.specs.declared.datagram.Udp.{Udp}
 use Rattle.live_server.specs.Acts.{datagram_of, emptied, is_half_open, is_over, judged, new_conn, reached, receives, sent_by, ticked}
 use Rattle.icmp_codec.specs.EchoReply.{pong_bytes}
 use Rattle.icmp_codec.specs.EchoRequest.{PingOf, ping_in}
@@ -20,6 +22,7 @@ use Rattle.icmp_codec.specs.TooLong.{too_long_in}
 use Rattle.icmp_codec.specs.declared.too_long.TooLong.{TooLong}
 use Rattle.live_server.specs.Addresses.{is_for_us, is_to_us}
 use Rattle.live_server.specs.Counting.{counting_judged, more}
+use Rattle.live_server.specs.CountsText.{counts_text, named_counts, state_counts}
 use Rattle.live_server.specs.Initial.{number_for}
 use Rattle.live_server.specs.Leaving.{and_turned, without_leaving, without_shed}
 use Rattle.live_server.specs.PathMtu.{shortens, text_in_mtu}
@@ -39,13 +42,14 @@ use Rattle.live_server.specs.declared.rules.Rules.{Rules}
 use Rattle.live_server.specs.declared.setting.Setting.{Setting}
 
 -- the connections; the ends and the number of those that were opened last, which may be half open, by age; how many bytes all held when
--- the time last came to them, with the text that came since; how many echo requests were answered since then, and who was turned away;
--- whether it drains; what it was started with; what it met
+-- the time last came to them, with the text that came since; how many echo requests were answered since then, whether the
+-- host was told the counts, and who was turned away; whether it drains; what it was started with; what it met
 pub record ServerOf : Type 0 where
   pub conns : Conns
   pub waiting : List (Tuple × ℕ)
   pub held : ℕ
   pub pings : ℕ
+  pub told : Bool
   pub turned : TurnedAway
   pub draining : Bool
   pub setting : Setting
@@ -59,6 +63,7 @@ server_of conns r = record {
   waiting = r.waiting.items;
   held = r.held;
   pings = r.pings;
+  told = r.told;
   turned = r.turned;
   draining = r.draining;
   setting = r.setting;
@@ -254,13 +259,31 @@ unfoldable pub on_other : ℕ → Option PingOf → ServerOf → Outcome
 on_other now None sv = passes_over sv
 on_other now (Some p) sv = if is_echoed p sv then echoes now p sv else passes_over sv
 
--- an order of the host: it drains from now on, whatever comes later. Other texts say nothing
-unfoldable pub obeys : List ℕ → ServerOf → Outcome
-obeys text sv = if bytes_eq text (codes "drain") then sends_nothing (record sv { draining = true }) else passes_over sv
+-- what it tells of itself, and of what it met
+abbrev pub told_counts : ServerOf → List (List ℕ × ℕ)
+told_counts sv = state_counts (length sv.conns) (length sv.waiting) sv.held sv.draining ++ named_counts sv.counts
+
+-- an answer goes where the datagram came from
+abbrev pub back_to : Udp → Tuple
+back_to u = record { client = u.src; client_port = u.src_port; server = u.dst; server_port = u.dst_port }
+
+abbrev pub tells_counts : ℕ → Udp → ServerOf → Outcome
+tells_counts now u sv = record {
+  server = record sv { told = true };
+  sent = record { at = now; bytes = udp_bytes (back_to u) (counts_text (told_counts sv)) } ∷ [];
+}
+
+-- an order of the host: it drains from now on, whatever comes later; or the host is told the counts, once from one tick to the next. Other texts say
+-- nothing
+unfoldable pub obeys : ℕ → Udp → List ℕ → ServerOf → Outcome
+obeys now u text sv =
+    if bytes_eq text (codes "drain") then sends_nothing (record sv { draining = true })
+    else if bytes_eq text (codes "counts") && not sv.told then tells_counts now u sv
+    else passes_over sv
 
 -- another protocol's datagram: an order, or not
 unfoldable pub on_protocol : ℕ → List ℕ → ServerOf → Outcome
-on_protocol now body sv = option_map_or (λ u. obeys (ordered_text u body) sv) (order_in sv.setting body) (on_other now (ping_in body) sv)
+on_protocol now body sv = option_map_or (λ u. obeys now u (ordered_text u body) sv) (order_in sv.setting body) (on_other now (ping_in body) sv)
 
 unfoldable pub on_packet : ℕ → List ℕ → Packet → ServerOf → Outcome
 on_packet now body (packet.Segment s) sv = addressed now s (text_in s body) sv
@@ -292,6 +315,6 @@ on_time now sv =
     let here = without_over (all_reached (measures_of sv) now sv.conns) in
     let kept = without_shed sv.setting sv.turned (without_leaving sv.setting now here) in
     record {
-      server = record sv { conns = kept; held = held_by kept; pings = 0; turned = Nobody; counts = record sv.counts { left = more (length here - length kept) sv.counts.left } };
+      server = record sv { conns = kept; held = held_by kept; pings = 0; told = false; turned = Nobody; counts = record sv.counts { left = more (length here - length kept) sv.counts.left } };
       sent = flat_map (λ c. sent_by c.0 (timed now sv c.1)) sv.conns;
     }

@@ -1,10 +1,11 @@
 //! One connection: its block, and what the server keeps beside it.
 
-ghost use Rattle.std.specs.Prelude.{◌≡◌, ◌++◌, ◌≤◌, IfOk, OnOk};
+ghost use Rattle.std.specs.Prelude.{◌≡◌, ◌++◌, ◌≤◌, IfOk, OnErr, OnOk};
 ghost use Rattle.live_server.specs.Acts.{after, closed, emptied, has_room, is_half_open, is_idle, is_outside, is_over, judged, meets};
 ghost use Rattle.live_server.specs.Acts.{new_conn, oldest_ack, provokes, pruned, reached, receives, renewed, resent, sent_by, taken, takes, ticked};
 ghost use Rattle.live_server.specs.Facts.{facts_of};
 ghost use Rattle.live_server.specs.Leaving.{is_given_up};
+ghost use Rattle.live_server.specs.Written.{HasSent};
 ghost use Rattle.tcb_machine.specs.TcpStep.{is_time_wait};
 ghost use Rattle.tcb_machine.specs.Room.{HasRoom};
 ghost use Rattle.tcb_machine.specs.Limits.{last_time};
@@ -234,6 +235,7 @@ impl Conn {
     ) -> Result<(), AllocError>
         ensures conn { OnOk result (self.new ≡ emptied self.old) }
         ensures sent { OnOk result (out.new.items ≡ out.old.items ++ sent_by tuple.now self.old) }
+        ensures wrote { OnErr result (HasSent out.old.items out.new.items (sent_by tuple.now self.old)) }
     {
         let most = self.most;
         let replies = self.tcb.take_replies(alloc);
@@ -244,6 +246,7 @@ impl Conn {
     }
 
     /// The time comes to the block, and what it sends leaves it. After an error nothing more is promised of the connection.
+    #[tactic(auto, using(crate::proofs::WrittenLemmas::nothing_sent))]
     fn time(
         &mut self,
         alloc: Global,
@@ -254,6 +257,7 @@ impl Conn {
         requires { now ≤ last_time }
         ensures conn { OnOk result (self.new ≡ emptied (reached now self.old)) }
         ensures sent { OnOk result (out.new.items ≡ out.old.items ++ sent_by tuple.now (reached now self.old)) }
+        ensures wrote { OnErr result (HasSent out.old.items out.new.items (sent_by tuple.now (reached now self.old))) }
     {
         self.reach(alloc, now)?;
         self.send(alloc, tuple, out)
@@ -261,6 +265,7 @@ impl Conn {
 
     /// The same at a tick: where the server drains, it closes; where the memory for text is tight, what the block holds behind a gap is
     /// forgotten. After an error nothing more is promised of the connection.
+    #[tactic(auto, using(crate::proofs::WrittenLemmas::nothing_sent))]
     pub fn tick(
         &mut self,
         alloc: Global,
@@ -272,6 +277,7 @@ impl Conn {
         requires { now ≤ last_time }
         ensures conn { OnOk result (self.new ≡ emptied (ticked measures now self.old)) }
         ensures sent { OnOk result (out.new.items ≡ out.old.items ++ sent_by tuple.now (ticked measures now self.old)) }
+        ensures wrote { OnErr result (HasSent out.old.items out.new.items (sent_by tuple.now (ticked measures now self.old))) }
     {
         self.reach(alloc, now)?;
         close(&mut self.tcb, alloc, measures.draining)?;
@@ -281,6 +287,7 @@ impl Conn {
 
     /// A segment comes, and what the block sends leaves it. The answer says what became of the segment. After an error nothing more
     /// is promised of the connection.
+    #[tactic(auto, using(crate::proofs::WrittenLemmas::nothing_sent))]
     pub fn segment(
         &mut self,
         alloc: Global,
@@ -295,6 +302,7 @@ impl Conn {
         ensures judged { IfOk result (λ j. j ≡ judged now seg.now text.now self.old) }
         ensures conn { OnOk result (self.new ≡ emptied (receives now iss seg.now text.now self.old)) }
         ensures sent { OnOk result (out.new.items ≡ out.old.items ++ sent_by tuple.now (receives now iss seg.now text.now self.old)) }
+        ensures wrote { OnErr result (HasSent out.old.items out.new.items (sent_by tuple.now (receives now iss seg.now text.now self.old))) }
     {
         let judged = self.take(alloc, now, iss, seg, text)?;
         self.send(alloc, tuple, out)?;
@@ -317,6 +325,7 @@ impl Conn {
         ensures met { IfOk result (λ m. m ≡ (meets now iss seg.now text.now tuple.now self.old).met) }
         ensures conn { OnOk result (self.new ≡ emptied (meets now iss seg.now text.now tuple.now self.old).conn) }
         ensures sent { OnOk result (out.new.items ≡ out.old.items ++ (meets now iss seg.now text.now tuple.now self.old).sent) }
+        ensures wrote { OnErr result (HasSent out.old.items out.new.items (meets now iss seg.now text.now tuple.now self.old).sent) }
     {
         self.time(alloc, now, tuple, out)?;
         if self.is_over() {

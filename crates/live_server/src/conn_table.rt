@@ -11,6 +11,7 @@ ghost use Rattle.live_server.specs.Serving.{is_waiting};
 ghost use Rattle.live_server.specs.Table.{Conns, all_reached, conn_at, held_by, place_of, replaced, without, without_over, IsNew};
 ghost use Rattle.live_server.specs.Told.{Told};
 ghost use Rattle.live_server.specs.Told.Told.{begins, hears};
+ghost use Rattle.live_server.specs.Written.{HasSent};
 ghost use Rattle.live_server.specs.declared.conn.Met.TheVariants.{Gone};
 ghost use Rattle.live_server.specs.declared.measures.Measures.{Measures};
 
@@ -103,6 +104,7 @@ pub trait ConnTable {
         ensures table { OnOk result (conns self.new
             ≡ replaced place (meets now iss seg.now text.now tuple.now (conn_at place (conns self.old))).conn (conns self.old)) }
         ensures sent { OnOk result (out.new.items ≡ out.old.items ++ (meets now iss seg.now text.now tuple.now (conn_at place (conns self.old))).sent) }
+        ensures wrote { OnErr result (HasSent out.old.items out.new.items (meets now iss seg.now text.now tuple.now (conn_at place (conns self.old))).sent) }
         ensures told { OnOk result (tells self.old (hears tuple.now ∷ []) self.new) }
         ensures gone { IfOk result (λ m. m ≡ Gone → IsNew tuple.now (conns self.new)) }
         ensures lost { OnErr result (conns self.new ≡ without place (conns self.old)) };
@@ -126,6 +128,7 @@ pub trait ConnTable {
         ensures table { OnOk result (conns self.new
             ≡ replaced place (shortens seq most tuple.now (conn_at place (conns self.old))).conn (conns self.old)) }
         ensures sent { OnOk result (out.new.items ≡ out.old.items ++ (shortens seq most tuple.now (conn_at place (conns self.old))).sent) }
+        ensures wrote { OnErr result (HasSent out.old.items out.new.items (shortens seq most tuple.now (conn_at place (conns self.old))).sent) }
         ensures told { OnOk result (tells self.old (hears tuple.now ∷ []) self.new) }
         ensures lost { OnErr result (conns self.new ≡ without place (conns self.old)) };
 
@@ -143,6 +146,7 @@ pub trait ConnTable {
         ensures good { good self.new }
         ensures table { OnOk result (conns self.new ≡ all_reached measures now (conns self.old)) }
         ensures sent { OnOk result (out.new.items ≡ out.old.items ++ flat_map (λ c. sent_by c.0 (ticked measures now c.1)) (conns self.old)) }
+        ensures wrote { OnErr result (HasSent out.old.items out.new.items (flat_map (λ c. sent_by c.0 (ticked measures now c.1)) (conns self.old))) }
         ensures told { OnOk result (tells self.old (map hears (keys_of (conns self.old))) self.new) }
         ensures lost { OnErr result (spoils measures now (conns self.old) (conns self.new)) };
 

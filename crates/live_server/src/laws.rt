@@ -2,7 +2,7 @@
 
 ghost use Rattle.std.specs.Prelude.{◌≡◌, codes};
 ghost use Rattle.live_server.specs.DaytimeText.{date_of, daytime_text};
-ghost use Rattle.live_server.specs.Draining.{EachCloses, NoneOpens};
+ghost use Rattle.live_server.specs.Draining.{EachCloses, HostDrains, NoneOpens, TimeKeepsDrain};
 ghost use Rattle.live_server.specs.Frames.{PiecesJoin};
 ghost use Rattle.live_server.specs.Isolation.{AnswersItsEnds, OthersStay, OwnConnActs, OwnEntryGivesWay, SegmentKeepsTable, TimeKeepsTable, TimeLeaves, TooLongIsApart};
 ghost use Rattle.live_server.specs.Promises.{ChallengesAreApart, FirstIsWide, OneGivesWay, OneIsShed, PlaceIsFreed, OutputIsBounded, SegmentKeepsFew, SegmentKeepsWide, ShedIsFair, ShownIsKept};
@@ -107,6 +107,12 @@ pub fn congestion_is_bounded()
 pub fn a_drain_ends()
     ensures none { NoneOpens }
     ensures each { EachCloses }
+{}
+
+/// A drain is begun by an order of the host alone: by no other datagram, and by no tick.
+pub fn only_the_host_drains()
+    ensures datagram { HostDrains }
+    ensures time { TimeKeepsDrain }
 {}
 
 /// What a block has under way behind output is at most what it had, or what its window holds, and one for our FIN; and the window that it is

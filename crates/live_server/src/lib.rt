@@ -10,6 +10,7 @@ mod congestion;
 mod conn;
 mod conn_table;
 mod counts;
+mod counts_text;
 mod crowding;
 mod daytime;
 mod facts;

@@ -4,10 +4,11 @@ ghost use Rattle.std.specs.Prelude.{◌≡◌, ◌+◌, ◌<◌, ◌^◌, drop, 
 ghost use Rattle.icmp_codec.specs.EchoRequest.{sum_holds};
 ghost use Rattle.udp_codec.specs.ReadAgain.{text_in};
 ghost use Rattle.live_server.specs.Orders.{is_from_host, is_host, order_in, order_of, part_holds, sums_hold};
+ghost use Rattle.live_server.specs.Serving.{back_to};
 
 use crate::setting::Setting;
 use segment_codec::places::word_at;
-use sq_base::{Addr, Link, inet_sum};
+use sq_base::{Addr, Link, Tuple, inet_sum};
 use udp_codec::{Udp, decode_udp};
 
 /// The port of systat (RFC 866), to which orders go.
@@ -47,6 +48,18 @@ pub(crate) fn order_text<'d>(udp: &Udp, ip: &'d [u8]) -> &'d [u8]
     ensures { result.now ≡ text_in udp.now ip.now }
 {
     piece(ip, udp.text_from as usize, udp.text_len as usize)
+}
+
+/// The ends of an answer, which goes where the datagram came from.
+pub(crate) fn back_to(udp: &Udp) -> Tuple
+    ensures { result ≡ back_to udp.now }
+{
+    Tuple {
+        client: udp.src,
+        client_port: udp.src_port,
+        server: udp.dst,
+        server_port: udp.dst_port,
+    }
 }
 
 /// Whether it comes from a port of the host that needs a right, and goes to the server's systat.

@@ -1,10 +1,11 @@
 //! A connection whose path takes no datagram as long as one that it sent, as a router says (RFC 1191).
 
-ghost use Rattle.std.specs.Prelude.{◌≡◌, ◌++◌, true, false, IfOk, OnOk};
+ghost use Rattle.std.specs.Prelude.{◌≡◌, ◌++◌, true, false, IfOk, OnErr, OnOk};
 ghost use Rattle.sq_base.specs.declared.kinds.Tuple.{Tuple};
 ghost use Rattle.tcb_machine.specs.States.{is_listen};
 ghost use Rattle.live_server.specs.Acts.{emptied, sent_by};
 ghost use Rattle.live_server.specs.PathMtu.{is_heeded, path_told, shortened, shortens, text_in_mtu};
+ghost use Rattle.live_server.specs.Written.{HasSent};
 
 use crate::acting::Datagram;
 use crate::congestion::{flight, is_open};
@@ -20,6 +21,7 @@ impl Conn {
     /// A router says that it dropped the segment with a number, since the next path takes no more than `most` bytes of text in one. Where
     /// that number is under way, and segments are longer, they are shorter from then on, and what was sent is sent again. The answer says
     /// whether it was heeded: else it met nobody. After an error nothing more is promised of the connection.
+    #[tactic(auto, using(crate::proofs::WrittenLemmas::nothing_sent))]
     pub fn shorten(
         &mut self,
         alloc: Global,
@@ -31,6 +33,7 @@ impl Conn {
         ensures met { IfOk result (λ m. m ≡ (shortens seq most tuple.now self.old).met) }
         ensures conn { OnOk result (self.new ≡ emptied (path_told seq most self.old)) }
         ensures sent { OnOk result (out.new.items ≡ out.old.items ++ sent_by tuple.now (path_told seq most self.old)) }
+        ensures wrote { OnErr result (HasSent out.old.items out.new.items (sent_by tuple.now (path_told seq most self.old))) }
     {
         let met = self.hear_path(alloc, seq, most)?;
         self.send(alloc, tuple, out)?;

@@ -1,6 +1,8 @@
 //! What a datagram and the time do to a table of connections: who gets a place, who gives way, and where a segment goes.
 
-ghost use Rattle.std.specs.Prelude.{◌≡◌, ◌++◌, ◌∷◌, ◌<◌, ◌≤◌, ◌^◌, [], true, length, Some, OnErr, OnOk, false};
+ghost use Rattle.std.specs.Prelude.{◌≡◌, ◌++◌, ◌∷◌, ◌<◌, ◌≤◌, ◌^◌, [], true, length, IfOk, Some, OnErr, OnOk, false};
+ghost use Rattle.std.specs.String.{string_bytes};
+ghost use Rattle.udp_codec.specs.Limits.{most_text};
 ghost use Rattle.segment_codec.specs.Refusal.{tuple_of};
 ghost use Rattle.sq_base.specs.declared.kinds.Tuple.{Tuple};
 ghost use Rattle.tcb_machine.specs.Limits.{last_time};
@@ -9,21 +11,24 @@ ghost use Rattle.live_server.specs.Leaving.{without_shed};
 ghost use Rattle.live_server.specs.Isolation.{Costs, CostsOf, KeepsStart, Loses};
 ghost use Rattle.icmp_codec.specs.EchoRequest.{ping_in};
 ghost use Rattle.live_server.specs.Serving.{addressed, admits, arrives, echoes, fits, has_place, is_echoed, is_tight, limited, makes_place};
+ghost use Rattle.live_server.specs.CountsText.{counts_text};
 ghost use Rattle.live_server.specs.Serving.{measures_of, obeys, on_datagram, on_other, on_protocol, on_segment, on_time, on_too_long, opens};
-ghost use Rattle.live_server.specs.Serving.{passes_over, refused, refuses, server_of, shortens_at, takes_place, without_text, yields};
+ghost use Rattle.live_server.specs.Serving.{passes_over, refused, refuses, server_of, shortens_at, takes_place, tells_counts, told_counts, without_text, yields};
 ghost use Rattle.live_server.specs.Table.{place_of, IsNew};
 ghost use Rattle.live_server.specs.Told.{told_addressed, told_arriving, told_datagram, told_opening, told_segment, told_taking, told_time, told_too_long, told_admitting};
 ghost use Rattle.live_server.specs.Told.Told.{hears};
+ghost use Rattle.live_server.specs.Written.{HasSent};
 
 use crate::acting::{Datagram, encoded, text_of};
 use crate::addresses::{is_for_us, is_to_us};
 use crate::conn::{Conn, Met};
 use crate::conn_table::ConnTable;
 use crate::counts::Counts;
+use crate::counts_text::counts_text;
 use crate::crowding::{TurnedAway, shed_place};
 use crate::initial::{Secret, initial_number};
 use crate::measures::Measures;
-use crate::orders::{order_in, order_text};
+use crate::orders::{back_to, order_in, order_text};
 use crate::path_mtu::text_in_mtu;
 use crate::ports::{is_served_at, service_at};
 use crate::setting::Setting;
@@ -33,6 +38,7 @@ use sq_base::{Link, Tuple};
 use std::alloc::{AllocError, Global};
 use std::collections::VecDeque;
 use tcb_machine::DEFAULT_MSS;
+use udp_codec::{Udp, encode_udp};
 
 /// The rules over a table of connections, and what they keep beside it.
 #[derive(Drop)]
@@ -44,6 +50,8 @@ pub struct Rules<T> {
     held: u64,
     /// How many echo requests were answered since the time last came.
     pings: u32,
+    /// Whether the host was told the counts since then.
+    told: bool,
     /// Who found no place since then.
     turned: TurnedAway,
     /// Whether it drains: no connection opens any more, and each one closes.
@@ -65,6 +73,7 @@ impl<T: ConnTable> Rules<T> {
           waiting = [];
           held = 0;
           pings = 0;
+          told = false;
           turned = Nobody;
           draining = false;
           setting = setting;
@@ -77,6 +86,7 @@ impl<T: ConnTable> Rules<T> {
             waiting: VecDeque::new(alloc),
             held: 0,
             pings: 0,
+            told: false,
             turned: TurnedAway::Nobody,
             draining: false,
             setting,
@@ -125,6 +135,7 @@ impl<T: ConnTable> Rules<T> {
         ensures good { T.good self.new.table }
         ensures server { OnOk result (server_of T.conns self.new ≡ (on_datagram now body.now (server_of T.conns self.old)).server) }
         ensures sent { OnOk result (out.new.items ≡ out.old.items ++ (on_datagram now body.now (server_of T.conns self.old)).sent) }
+        ensures wrote { OnErr result (HasSent out.old.items out.new.items (on_datagram now body.now (server_of T.conns self.old)).sent) }
         ensures told { OnOk result (T.tells self.old.table (told_datagram now body.now (server_of T.conns self.old)) self.new.table) }
         ensures lost { OnErr result (CostsOf body.now (server_of T.conns self.old) (server_of T.conns self.new)) }
         ensures start { OnErr result (KeepsStart (server_of T.conns self.old) (server_of T.conns self.new)) }
@@ -154,6 +165,7 @@ impl<T: ConnTable> Rules<T> {
         ensures good { T.good self.new.table }
         ensures server { OnOk result (server_of T.conns self.new ≡ (on_too_long too_long.now (server_of T.conns self.old)).server) }
         ensures sent { OnOk result (out.new.items ≡ out.old.items ++ (on_too_long too_long.now (server_of T.conns self.old)).sent) }
+        ensures wrote { OnErr result (HasSent out.old.items out.new.items (on_too_long too_long.now (server_of T.conns self.old)).sent) }
         ensures told { OnOk result (T.tells self.old.table (told_too_long too_long.now (server_of T.conns self.old)) self.new.table) }
         ensures lost { OnErr result (Loses too_long.now.ends (server_of T.conns self.old) (server_of T.conns self.new)) }
         ensures start { OnErr result (KeepsStart (server_of T.conns self.old) (server_of T.conns self.new)) }
@@ -181,6 +193,7 @@ impl<T: ConnTable> Rules<T> {
         ensures good { T.good self.new.table }
         ensures server { OnOk result (server_of T.conns self.new ≡ (shortens_at too_long.now place (server_of T.conns self.old)).server) }
         ensures sent { OnOk result (out.new.items ≡ out.old.items ++ (shortens_at too_long.now place (server_of T.conns self.old)).sent) }
+        ensures wrote { OnErr result (HasSent out.old.items out.new.items (shortens_at too_long.now place (server_of T.conns self.old)).sent) }
         ensures told { OnOk result (T.tells self.old.table (hears too_long.now.ends ∷ []) self.new.table) }
         ensures lost { OnErr result (Loses too_long.now.ends (server_of T.conns self.old) (server_of T.conns self.new)) }
         ensures start { OnErr result (KeepsStart (server_of T.conns self.old) (server_of T.conns self.new)) }
@@ -210,33 +223,84 @@ impl<T: ConnTable> Rules<T> {
         body: &[u8],
         out: &mut Vec<Datagram>,
     ) -> Result<(), AllocError>
+        requires good { T.good self.old.table }
         requires body { length body.now < 2 ^ 32 }
         ensures table { self.new.table ≡ self.old.table }
         ensures server { OnOk result (server_of T.conns self.new ≡ (on_protocol now body.now (server_of T.conns self.old)).server) }
         ensures sent { OnOk result (out.new.items ≡ out.old.items ++ (on_protocol now body.now (server_of T.conns self.old)).sent) }
+        ensures wrote { OnErr result (HasSent out.old.items out.new.items (on_protocol now body.now (server_of T.conns self.old)).sent) }
         ensures kept { OnErr result (server_of T.conns self.new ≡ server_of T.conns self.old) }
     {
         match order_in(&self.setting, body) {
-            Some(order) => {
-                self.obey(order_text(&order, body));
-                Ok(())
-            }
+            Some(order) => self.obey(alloc, now, &order, order_text(&order, body), out),
             None => self.other(alloc, now, body, out),
         }
     }
 
     /// An order of the host. A text that is none is passed over.
     #[tactic(auto, unfolding(crate::specs::Serving::obeys))]
-    fn obey(&mut self, text: &[u8])
+    fn obey(
+        &mut self,
+        alloc: Global,
+        now: u64,
+        order: &Udp,
+        text: &[u8],
+        out: &mut Vec<Datagram>,
+    ) -> Result<(), AllocError>
+        requires good { T.good self.old.table }
         ensures table { self.new.table ≡ self.old.table }
-        ensures server { server_of T.conns self.new ≡ (obeys text.now (server_of T.conns self.old)).server }
-        ensures sent { (obeys text.now (server_of T.conns self.old)).sent ≡ [] }
+        ensures server { OnOk result (server_of T.conns self.new ≡ (obeys now order.now text.now (server_of T.conns self.old)).server) }
+        ensures sent { OnOk result (out.new.items ≡ out.old.items ++ (obeys now order.now text.now (server_of T.conns self.old)).sent) }
+        ensures wrote { OnErr result (HasSent out.old.items out.new.items (obeys now order.now text.now (server_of T.conns self.old)).sent) }
+        ensures kept { OnErr result (server_of T.conns self.new ≡ server_of T.conns self.old) }
     {
         if text == b"drain".as_slice() {
             self.draining = true;
+            Ok(())
+        } else if text == b"counts".as_slice() && !self.told {
+            self.tell(alloc, now, order, out)
         } else {
             self.pass_over();
+            Ok(())
         }
+    }
+
+    /// The host is told the counts. After an error nothing has changed.
+    fn tell(
+        &mut self,
+        alloc: Global,
+        now: u64,
+        order: &Udp,
+        out: &mut Vec<Datagram>,
+    ) -> Result<(), AllocError>
+        requires good { T.good self.old.table }
+        ensures table { self.new.table ≡ self.old.table }
+        ensures server { OnOk result (server_of T.conns self.new ≡ (tells_counts now order.now (server_of T.conns self.old)).server) }
+        ensures sent { OnOk result (out.new.items ≡ out.old.items ++ (tells_counts now order.now (server_of T.conns self.old)).sent) }
+        ensures wrote { OnErr result (HasSent out.old.items out.new.items (tells_counts now order.now (server_of T.conns self.old)).sent) }
+        ensures kept { OnErr result (server_of T.conns self.new ≡ server_of T.conns self.old) }
+    {
+        let text = self.counts_text(alloc)?;
+        let bytes = encode_udp(alloc, &back_to(order), text.as_bytes())?;
+        out.push(Datagram { at: now, bytes })?;
+        self.told = true;
+        Ok(())
+    }
+
+    /// The text that tells the counts.
+    fn counts_text(&self, alloc: Global) -> Result<String, AllocError>
+        requires good { T.good self.now.table }
+        ensures is { IfOk result (λ text. string_bytes text ≡ counts_text (told_counts (server_of T.conns self.now))) }
+        ensures short { IfOk result (λ text. length (string_bytes text) ≤ most_text) }
+    {
+        counts_text(
+            alloc,
+            self.table.len(),
+            self.waiting.len(),
+            self.held,
+            self.draining,
+            &self.counts,
+        )
     }
 
     /// A datagram of another protocol: an echo request is answered, where it is for us, and not many were since the time last came.
@@ -251,6 +315,7 @@ impl<T: ConnTable> Rules<T> {
         ensures table { self.new.table ≡ self.old.table }
         ensures server { OnOk result (server_of T.conns self.new ≡ (on_other now (ping_in body.now) (server_of T.conns self.old)).server) }
         ensures sent { OnOk result (out.new.items ≡ out.old.items ++ (on_other now (ping_in body.now) (server_of T.conns self.old)).sent) }
+        ensures wrote { OnErr result (HasSent out.old.items out.new.items (on_other now (ping_in body.now) (server_of T.conns self.old)).sent) }
         ensures kept { OnErr result (server_of T.conns self.new ≡ server_of T.conns self.old) }
     {
         match ping_in(body) {
@@ -271,7 +336,7 @@ impl<T: ConnTable> Rules<T> {
     }
 
     /// An echo request is answered. After an error nothing has changed.
-    #[tactic(auto, unfolding(crate::specs::Serving::is_echoed))]
+    #[tactic(auto, unfolding(crate::specs::Serving::is_echoed), using(crate::proofs::WrittenLemmas::nothing_sent))]
     fn echo(
         &mut self,
         alloc: Global,
@@ -283,6 +348,7 @@ impl<T: ConnTable> Rules<T> {
         ensures table { self.new.table ≡ self.old.table }
         ensures server { OnOk result (server_of T.conns self.new ≡ (echoes now ping.now (server_of T.conns self.old)).server) }
         ensures sent { OnOk result (out.new.items ≡ out.old.items ++ (echoes now ping.now (server_of T.conns self.old)).sent) }
+        ensures wrote { OnErr result (HasSent out.old.items out.new.items (echoes now ping.now (server_of T.conns self.old)).sent) }
         ensures kept { OnErr result (server_of T.conns self.new ≡ server_of T.conns self.old) }
     {
         let bytes = pong(alloc, ping)?;
@@ -319,6 +385,7 @@ impl<T: ConnTable> Rules<T> {
         ensures good { T.good self.new.table }
         ensures server { OnOk result (server_of T.conns self.new ≡ (on_time now (server_of T.conns self.old)).server) }
         ensures sent { OnOk result (out.new.items ≡ out.old.items ++ (on_time now (server_of T.conns self.old)).sent) }
+        ensures wrote { OnErr result (HasSent out.old.items out.new.items (on_time now (server_of T.conns self.old)).sent) }
         ensures told { OnOk result (T.tells self.old.table (told_time (server_of T.conns self.old)) self.new.table) }
         ensures lost { OnErr result (T.spoils (measures_of (server_of T.conns self.old)) now (T.conns self.old.table) (T.conns self.new.table)) }
         ensures rest { OnErr result (server_of T.conns self.new ≡ record (server_of T.conns self.old) { conns = T.conns self.new.table }) }
@@ -336,6 +403,7 @@ impl<T: ConnTable> Rules<T> {
         self.counts.left = self.counts.left.wrapping_add(left);
         self.held = self.table.held();
         self.pings = 0;
+        self.told = false;
         self.turned = TurnedAway::Nobody;
         Ok(())
     }
@@ -384,6 +452,7 @@ impl<T: ConnTable> Rules<T> {
         ensures good { T.good self.new.table }
         ensures server { OnOk result (server_of T.conns self.new ≡ (addressed now seg.now text.now (server_of T.conns self.old)).server) }
         ensures sent { OnOk result (out.new.items ≡ out.old.items ++ (addressed now seg.now text.now (server_of T.conns self.old)).sent) }
+        ensures wrote { OnErr result (HasSent out.old.items out.new.items (addressed now seg.now text.now (server_of T.conns self.old)).sent) }
         ensures told { OnOk result (T.tells self.old.table (told_addressed now seg.now text.now (server_of T.conns self.old)) self.new.table) }
         ensures lost { OnErr result (Costs seg.now (server_of T.conns self.old) (server_of T.conns self.new)) }
         ensures start { OnErr result (KeepsStart (server_of T.conns self.old) (server_of T.conns self.new)) }
@@ -409,6 +478,7 @@ impl<T: ConnTable> Rules<T> {
         ensures table { self.new.table ≡ self.old.table }
         ensures server { server_of T.conns self.new ≡ (refuses now seg.now (server_of T.conns self.old)).server }
         ensures sent { OnOk result (out.new.items ≡ out.old.items ++ (refuses now seg.now (server_of T.conns self.old)).sent) }
+        ensures wrote { OnErr result (HasSent out.old.items out.new.items (refuses now seg.now (server_of T.conns self.old)).sent) }
     {
         self.counts.refused = self.counts.refused.wrapping_add(1);
         refuse(alloc, now, seg, out)
@@ -428,6 +498,7 @@ impl<T: ConnTable> Rules<T> {
         ensures good { T.good self.new.table }
         ensures server { OnOk result (server_of T.conns self.new ≡ (on_segment now seg.now text.now (server_of T.conns self.old)).server) }
         ensures sent { OnOk result (out.new.items ≡ out.old.items ++ (on_segment now seg.now text.now (server_of T.conns self.old)).sent) }
+        ensures wrote { OnErr result (HasSent out.old.items out.new.items (on_segment now seg.now text.now (server_of T.conns self.old)).sent) }
         ensures told { OnOk result (T.tells self.old.table (told_segment now seg.now text.now (server_of T.conns self.old)) self.new.table) }
         ensures lost { OnErr result (Loses (tuple_of seg.now) (server_of T.conns self.old) (server_of T.conns self.new)) }
         ensures start { OnErr result (KeepsStart (server_of T.conns self.old) (server_of T.conns self.new)) }
@@ -463,6 +534,7 @@ impl<T: ConnTable> Rules<T> {
         ensures good { T.good self.new.table }
         ensures server { OnOk result (server_of T.conns self.new ≡ (arrives now seg.now text.now (server_of T.conns self.old)).server) }
         ensures sent { OnOk result (out.new.items ≡ out.old.items ++ (arrives now seg.now text.now (server_of T.conns self.old)).sent) }
+        ensures wrote { OnErr result (HasSent out.old.items out.new.items (arrives now seg.now text.now (server_of T.conns self.old)).sent) }
         ensures told { OnOk result (T.tells self.old.table (told_arriving now seg.now text.now (server_of T.conns self.old)) self.new.table) }
         ensures lost { OnErr result (Loses (tuple_of seg.now) (server_of T.conns self.old) (server_of T.conns self.new)) }
         ensures start { OnErr result (KeepsStart (server_of T.conns self.old) (server_of T.conns self.new)) }
@@ -489,6 +561,7 @@ impl<T: ConnTable> Rules<T> {
         ensures good { T.good self.new.table }
         ensures server { OnOk result (server_of T.conns self.new ≡ (arrives now seg.now text.now (server_of T.conns self.old)).server) }
         ensures sent { OnOk result (out.new.items ≡ out.old.items ++ (arrives now seg.now text.now (server_of T.conns self.old)).sent) }
+        ensures wrote { OnErr result (HasSent out.old.items out.new.items (arrives now seg.now text.now (server_of T.conns self.old)).sent) }
         ensures told { OnOk result (T.tells self.old.table (told_arriving now seg.now text.now (server_of T.conns self.old)) self.new.table) }
         ensures lost { OnErr result (Loses (tuple_of seg.now) (server_of T.conns self.old) (server_of T.conns self.new)) }
         ensures start { OnErr result (KeepsStart (server_of T.conns self.old) (server_of T.conns self.new)) }
@@ -523,6 +596,7 @@ impl<T: ConnTable> Rules<T> {
         ensures good { T.good self.new.table }
         ensures server { OnOk result (server_of T.conns self.new ≡ (opens now seg.now text.now (server_of T.conns self.old)).server) }
         ensures sent { OnOk result (out.new.items ≡ out.old.items ++ (opens now seg.now text.now (server_of T.conns self.old)).sent) }
+        ensures wrote { OnErr result (HasSent out.old.items out.new.items (opens now seg.now text.now (server_of T.conns self.old)).sent) }
         ensures told { OnOk result (T.tells self.old.table (told_opening now seg.now text.now (server_of T.conns self.old)) self.new.table) }
         ensures lost { OnErr result (Loses (tuple_of seg.now) (server_of T.conns self.old) (server_of T.conns self.new)) }
         ensures start { OnErr result (KeepsStart (server_of T.conns self.old) (server_of T.conns self.new)) }
@@ -535,7 +609,7 @@ impl<T: ConnTable> Rules<T> {
     }
 
     /// A connection takes a place, unless it is over at once.
-    #[tactic(auto, unfolding(crate::specs::Serving::admits))]
+    #[tactic(auto, unfolding(crate::specs::Serving::admits), using(crate::proofs::WrittenLemmas::nothing_sent))]
     fn admit(
         &mut self,
         alloc: Global,
@@ -550,6 +624,7 @@ impl<T: ConnTable> Rules<T> {
         ensures good { T.good self.new.table }
         ensures server { OnOk result (server_of T.conns self.new ≡ (admits now seg.now text.now (server_of T.conns self.old)).server) }
         ensures sent { OnOk result (out.new.items ≡ out.old.items ++ (admits now seg.now text.now (server_of T.conns self.old)).sent) }
+        ensures wrote { OnErr result (HasSent out.old.items out.new.items (admits now seg.now text.now (server_of T.conns self.old)).sent) }
         ensures told { OnOk result (T.tells self.old.table (told_admitting now seg.now text.now (server_of T.conns self.old)) self.new.table) }
         ensures lost { OnErr result (Loses (tuple_of seg.now) (server_of T.conns self.old) (server_of T.conns self.new)) }
         ensures start { OnErr result (KeepsStart (server_of T.conns self.old) (server_of T.conns self.new)) }
@@ -567,7 +642,7 @@ impl<T: ConnTable> Rules<T> {
     }
 
     /// A connection takes a place, where one is free.
-    #[tactic(auto, unfolding(crate::specs::Serving::takes_place, crate::specs::Told::told_taking))]
+    #[tactic(auto, unfolding(crate::specs::Serving::takes_place, crate::specs::Told::told_taking), using(crate::proofs::WrittenLemmas::all_sent))]
     fn take_place(
         &mut self,
         alloc: Global,
@@ -580,6 +655,7 @@ impl<T: ConnTable> Rules<T> {
         ensures good { T.good self.new.table }
         ensures server { OnOk result (server_of T.conns self.new ≡ (takes_place tuple conn (server_of T.conns self.old)).server) }
         ensures sent { OnOk result (out.new.items ≡ out.old.items ++ (takes_place tuple conn (server_of T.conns self.old)).sent) }
+        ensures wrote { OnErr result (HasSent out.old.items out.new.items (takes_place tuple conn (server_of T.conns self.old)).sent) }
         ensures told { OnOk result (T.tells self.old.table (told_taking tuple (server_of T.conns self.old)) self.new.table) }
         ensures lost { OnErr result (Loses tuple (server_of T.conns self.old) (server_of T.conns self.new)) }
         ensures start { OnErr result (KeepsStart (server_of T.conns self.old) (server_of T.conns self.new)) }
@@ -678,8 +754,10 @@ pub fn without_text(seg: &Seg) -> Seg
 }
 
 /// A segment to a port that isn't served is answered by a reset.
+#[tactic(auto, using(crate::proofs::WrittenLemmas::nothing_sent))]
 fn refuse(alloc: Global, now: u64, seg: &Seg, out: &mut Vec<Datagram>) -> Result<(), AllocError>
-    ensures { OnOk result (out.new.items ≡ out.old.items ++ refused now seg.now) }
+    ensures sent { OnOk result (out.new.items ≡ out.old.items ++ refused now seg.now) }
+    ensures wrote { OnErr result (HasSent out.old.items out.new.items (refused now seg.now)) }
 {
     if let Some(reset) = refusal(alloc, now, seg) {
         out.push(encoded(alloc, &tuple_of(seg), &reset)?)?;

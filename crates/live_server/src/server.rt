@@ -4,6 +4,7 @@ ghost use Rattle.std.specs.Prelude.{◌≡◌, ◌++◌, ◌<◌, ◌≤◌, ◌
 ghost use Rattle.tcb_machine.specs.Limits.{last_time};
 ghost use Rattle.live_server.specs.Isolation.{CostsOf, KeepsStart, LosesOne};
 ghost use Rattle.live_server.specs.Serving.{on_datagram, on_time};
+ghost use Rattle.live_server.specs.Written.{HasSent};
 
 use crate::acting::Datagram;
 use crate::conn_table::ConnTable;
@@ -48,7 +49,7 @@ impl Server {
 
     /// A server with no connection. It takes no memory.
     pub fn new(alloc: Global, setting: Setting, secret: Secret) -> Server
-        ensures { result ≡ record { conns = []; waiting = []; held = 0; pings = 0; turned = Nobody; draining = false; setting = setting; secret = secret.0; counts = no_counts } }
+        ensures { result ≡ record { conns = []; waiting = []; held = 0; pings = 0; told = false; turned = Nobody; draining = false; setting = setting; secret = secret.0; counts = no_counts } }
     {
         Server {
             rules: Rules::over(alloc, IndexMap::new(alloc), setting, secret),
@@ -91,6 +92,7 @@ impl Server {
         requires body { length body.now < 2 ^ 32 }
         ensures server { OnOk result (self.new ≡ (on_datagram now body.now self.old).server) }
         ensures sent { OnOk result (out.new.items ≡ out.old.items ++ (on_datagram now body.now self.old).sent) }
+        ensures wrote { OnErr result (HasSent out.old.items out.new.items (on_datagram now body.now self.old).sent) }
         ensures lost { OnErr result (CostsOf body.now self.old self.new) }
         ensures start { OnErr result (KeepsStart self.old self.new) }
     {
@@ -111,6 +113,7 @@ impl Server {
         requires time { now ≤ last_time }
         ensures server { OnOk result (self.new ≡ (on_time now self.old).server) }
         ensures sent { OnOk result (out.new.items ≡ out.old.items ++ (on_time now self.old).sent) }
+        ensures wrote { OnErr result (HasSent out.old.items out.new.items (on_time now self.old).sent) }
         ensures lost { OnErr result (LosesOne now self.old self.new) }
         ensures rest { OnErr result (self.new ≡ record self.old { conns = self.new.conns }) }
     {

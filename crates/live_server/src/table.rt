@@ -9,6 +9,7 @@ ghost use Rattle.live_server.specs.Leaving.{peer_of, without_leaving};
 ghost use Rattle.live_server.specs.PathMtu.{shortens};
 ghost use Rattle.live_server.specs.Serving.{is_waiting};
 ghost use Rattle.live_server.specs.Table.{all_reached, conn_at, held_by, place_of, reached_until, replaced, settled, without, without_over, IsNew};
+ghost use Rattle.live_server.specs.Written.{HasSent};
 ghost use Rattle.live_server.specs.declared.conn.Met.TheVariants.{Gone};
 ghost use Rattle.sq_base.specs.declared.kinds.Tuple.{Tuple};
 
@@ -219,6 +220,7 @@ fn reach_all(
     requires { now ≤ last_time }
     ensures table { OnOk result (table.new.entries ≡ all_reached measures now table.old.entries) }
     ensures sent { OnOk result (out.new.items ≡ out.old.items ++ flat_map (λ c. sent_by c.0 (ticked measures now c.1)) table.old.entries) }
+    ensures wrote { OnErr result (HasSent out.old.items out.new.items (flat_map (λ c. sent_by c.0 (ticked measures now c.1)) table.old.entries)) }
     ensures lost { OnErr result ((i : ℕ) × (i < length table.old.entries) × (table.new.entries ≡ without i (reached_until measures now i table.old.entries))) }
 {
     for place in 0..table.len() {
@@ -252,6 +254,7 @@ fn meet_at(
         (meets now iss seg.now text.now tuple.now (conn_at place table.old.entries)).conn table.old.entries) }
     ensures sent { OnOk result (out.new.items ≡ out.old.items
         ++ (meets now iss seg.now text.now tuple.now (conn_at place table.old.entries)).sent) }
+    ensures wrote { OnErr result (HasSent out.old.items out.new.items (meets now iss seg.now text.now tuple.now (conn_at place table.old.entries)).sent) }
     ensures gone { IfOk result (λ m. m ≡ Gone → IsNew tuple.now table.new.entries) }
     ensures lost { OnErr result (table.new.entries ≡ without place table.old.entries) }
 {
@@ -286,6 +289,7 @@ fn shorten_at(
         (shortens seq most tuple.now (conn_at place table.old.entries)).conn table.old.entries) }
     ensures sent { OnOk result (out.new.items ≡ out.old.items
         ++ (shortens seq most tuple.now (conn_at place table.old.entries)).sent) }
+    ensures wrote { OnErr result (HasSent out.old.items out.new.items (shortens seq most tuple.now (conn_at place table.old.entries)).sent) }
     ensures lost { OnErr result (table.new.entries ≡ without place table.old.entries) }
 {
     let (_, conn) = table.pair_mut(place);

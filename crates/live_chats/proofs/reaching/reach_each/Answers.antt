@@ -5,6 +5,7 @@ use Rattle.placed_parts.specs.Placing.{limits_of}
 use Rattle.live_server.specs.Acts.{sent_by, ticked}
 use Rattle.live_server.specs.Table.{Conns, all_reached}
 use Rattle.live_server.specs.Told.Told.{hears}
+use Rattle.live_server.specs.Written.{HasSent}
 use Rattle.live_chats.specs.Seating.{Spoils, conns_of}
 use Rattle.live_chats.proofs.SeatLemmas.{seats_told_on}
 use Rattle.live_chats.proofs.reaching.reach_each.Goals as goal
@@ -25,3 +26,7 @@ returns-clause-told g c = λ yes.
 pub returns-clause-lost : goal.returns-clause-lost
 returns-clause-lost g c = λ no.
     subst (λ (cs : Conns). Spoils c.args.measures c.args.now cs (conns_of c.reach_now.new.stays c.reach_now.new.seats.entries)) c.renew_all-pass.ensures.table (c.reach_now.ensures.lost no)
+
+pub returns-clause-wrote : goal.returns-clause-wrote
+returns-clause-wrote g c = λ no.
+    subst (λ (cs : Conns). HasSent c.args.out.now.items c.reach_now.new.out.items (flat_map (λ x. sent_by x.0 (ticked c.args.measures c.args.now x.1)) cs)) c.renew_all-pass.ensures.table (c.reach_now.ensures.wrote no)

@@ -1,4 +1,4 @@
-use Rattle.std.proofs.Common.{◌≡◌, ℕ, ◌≤◌, Option, None, Some, List, length, map, slice_get, sym, ap, subst, ◌∙◌, arith, rules}
+use Rattle.std.proofs.Common.{◌≡◌, ℕ, ◌≤◌, Option, None, Some, List, length, map, slice_get, refl, sym, ap, subst, ◌∙◌, arith, rules}
 use Rattle.sq_base.specs.declared.kinds.Tuple.{Tuple}
 use Rattle.placed_parts.specs.Placing.{limits_of, origin_of}
 use Rattle.squeue_state.specs.declared.guarded.Life.{Life}
@@ -8,10 +8,11 @@ use Rattle.live_chats.specs.declared.ear.Heard.{Heard}
 use Rattle.live_chats.specs.declared.seat.Seat.{Seat}
 use Rattle.std.specs.Map.{keys_of}
 use Rattle.live_server.specs.Told.Told.{hears}
+use Rattle.live_server.proofs.WrittenLemmas.{nothing_sent}
 use Rattle.live_chats.specs.Accounts.{SeatsWereTold}
 use Rattle.live_chats.proofs.LivedLemmas.{begins_on}
 use Rattle.live_chats.proofs.SeatLemmas.{nobody_heard}
-use Rattle.live_chats.proofs.ToldLemmas.{all_conns, all_frames_told, all_seats, all_sent, heard_length, is_heard, learnt_length, some_seats, some_spoilt}
+use Rattle.live_chats.proofs.ToldLemmas.{all_conns, all_frames_told, all_seats, all_sent, heard_length, is_heard, learnt_length, some_seats, some_sent, some_spoilt}
 use Rattle.live_chats.proofs.reaching.reach_now.Goals as goal
 
 pub returns-then-all-clause-seats : goal.returns-then-all-clause-seats
@@ -121,3 +122,19 @@ pub returns-then-is_empty-clause-told : goal.returns-then-is_empty-clause-told
 returns-then-is_empty-clause-told g c = λ _.
     let none : length c.args.seats.now.entries ≡ 0 = search rules in
     nobody_heard limits_of c.args.line.now.squeue.now c.args.pass c.args.stays.now c.args.seats.now.entries none
+
+pub returns-clause-wrote : goal.returns-clause-wrote
+returns-clause-wrote g c = λ _.
+    let es = c.args.seats.now.entries in
+    let b = c.listen-pass.new.stays in
+    let hs = c.mark_next.new.heard.items in
+    let heard = is_heard c.args.measures c.args.now c.args.stays.now c.tell_all-pass.new.stays b es c.listen-pass.result.1.items hs c.args.out.now.items c.listen-pass.new.out.items c.tell_all-pass.result.1 _ c.requires.time c.tell_all-pass.ensures.count
+    c.requires.seats.seated c.requires.seats.distinct c.tell_all-pass.ensures.told c.listen-pass.ensures.kept c.tell_all-pass.ensures.touched c.listen-pass.ensures.answers (λ lt. c.mark_next.ensures.next (omega (arith, lt, c.len-3.ensures.len)))
+    (λ past. c.mark_next.ensures.all (omega (arith, past, c.len-3.ensures.len))) in
+    some_sent c.args.measures c.args.now c.args.stays.now b es c.listen-pass.result.1.items hs c.args.out.now.items c.listen-pass.new.out.items heard
+
+pub returns-then-life-len-clause-wrote : goal.returns-then-life-len-clause-wrote
+returns-then-life-len-clause-wrote g c = λ _. nothing_sent _ _ _ refl
+
+pub returns-in_default-clause-wrote : goal.returns-in_default-clause-wrote
+returns-in_default-clause-wrote g c = λ _. nothing_sent _ _ _ refl

@@ -9,12 +9,14 @@ use Rattle.live_server.specs.Table.{tuple_eq}
 use Rattle.squeue_state.specs.declared.guarded.Life.{Life}
 use Rattle.sq_base.specs.declared.kinds.Tuple.{Tuple}
 use Rattle.live_chats.specs.Accounts.{SeatsWereTold, pushed_at}
-use Rattle.live_chats.specs.Hearing.{hearing}
+use Rattle.live_server.specs.Written.{HasSent}
+use Rattle.live_server.proofs.WrittenLemmas.{nothing_sent}
+use Rattle.live_chats.specs.Hearing.{ChatOf, hearing}
 use Rattle.live_chats.specs.Listening.{IsAnswer}
 use Rattle.live_chats.specs.Seating.{chat_at}
 use Rattle.live_chats.specs.declared.seat.Seat.{Seat}
 use Rattle.live_chats.proofs.ListLemmas.{entry_there}
-use Rattle.live_chats.proofs.SeatLemmas.{heard_seated, heard_there, kept_ends, of_some, others_kept, same_entry, seat_heard, without_same}
+use Rattle.live_chats.proofs.SeatLemmas.{heard_seated, heard_there, hears_there, kept_ends, of_some, others_kept, same_entry, seat_heard, without_same}
 use Rattle.live_chats.proofs.seats.hear_now.Goals as goal
 
 pub vacate-pass-requires : goal.vacate-pass-requires
@@ -102,3 +104,13 @@ returns-in-Some-clause-told g c = λ t seat there.
     rw (c.learn.ensures e.0 e.1 c.seat_at-seat.ensures.1)
     (subst (λ (k : Tuple). SeatsWereTold limits_of s c.args.pass c.hear-pass.result.0 a b es (set_value_at es c.args.i (record e.1 { facts = c.in-Some.heard.facts })) (hears k ∷ []))
     (sym same) one)
+
+pub returns-in-None-clause-wrote : goal.returns-in-None-clause-wrote
+returns-in-None-clause-wrote g c = λ t d there.
+    let es = c.args.seats.now.entries in
+    let e : Tuple × Seat = (c.seat_at-seat.ensures.0, c.seat_at-seat.result) in
+    subst (λ (x : ChatOf). HasSent c.args.out.now.items c.hear-pass.new.out.items x.sent)
+    (hears_there c.args.item c.args.stays.now es c.args.i e c.seat_at-seat.ensures.1 (c.requires.seats.seated c.args.i e c.seat_at-seat.ensures.1) t d there) c.hear-pass.ensures.wrote
+
+pub returns-then-life-len-clause-wrote : goal.returns-then-life-len-clause-wrote
+returns-then-life-len-clause-wrote g c = λ t d there. nothing_sent _ _ _ refl

@@ -100,3 +100,29 @@ returns-clause-told g c =
     → SeatsWereTold limits_of s c.args.pass c.hear_at-pass.result.0 a b es fs (hears t ∷ []))
     c.hear_at-pass.result.1 c.in-Some.heard c.in-Some.is c.hear_at-pass.ensures.told in
     if_some _ c.in-Some.heard.met (λ m is t seat there. first t seat there)
+
+pub returns-then-is_over-clause-wrote : goal.returns-then-is_over-clause-wrote
+returns-then-is_over-clause-wrote g c =
+    let es = c.args.seats.now.entries in
+    let a = c.args.stays.now in
+    let b = c.hear_at-pass.new.stays in
+    let fs = c.hear_at-pass.new.seats.entries in
+    let heard = of_some (λ (h : Heard). (t : Tuple) (d : Conn) → slice_get (conns_of a es) c.args.i ≡ Some (t, d) → HeardAt c.args.item t d c.args.i h (conns_of a es) (conns_of b fs) c.args.out.now.items c.hear_at-pass.new.out.items)
+    c.hear_at-pass.result.1 c.in-Some.heard c.in-Some.is c.hear_at-pass.ensures.heard in
+    let e = entry_there es c.args.i c.requires.place in
+    let lt : c.args.i < length (conns_of a es) = omega (arith, conns_length a es, c.requires.place) in
+    if_none _ c.in-Some.heard.met (λ none. absurd (judged_so c.args.item (conn_of_seat a e.0).0 (conn_of_seat a e.0).1 c.args.i c.in-Some.heard (conns_of a es) (conns_of b fs) c.args.out.now.items c.hear_at-pass.new.out.items
+    (heard (conn_of_seat a e.0).0 (conn_of_seat a e.0).1 (conns_at a es c.args.i e.0 e.1)) lt c.requires.judges none))
+
+pub returns-clause-wrote : goal.returns-clause-wrote
+returns-clause-wrote g c =
+    let es = c.args.seats.now.entries in
+    let a = c.args.stays.now in
+    let b = c.hear_at-pass.new.stays in
+    let fs = c.hear_at-pass.new.seats.entries in
+    let heard = of_some (λ (h : Heard). (t : Tuple) (d : Conn) → slice_get (conns_of a es) c.args.i ≡ Some (t, d) → HeardAt c.args.item t d c.args.i h (conns_of a es) (conns_of b fs) c.args.out.now.items c.hear_at-pass.new.out.items)
+    c.hear_at-pass.result.1 c.in-Some.heard c.in-Some.is c.hear_at-pass.ensures.heard in
+    let e = entry_there es c.args.i c.requires.place in
+    let lt : c.args.i < length (conns_of a es) = omega (arith, conns_length a es, c.requires.place) in
+    if_none _ c.in-Some.heard.met (λ none. absurd (judged_so c.args.item (conn_of_seat a e.0).0 (conn_of_seat a e.0).1 c.args.i c.in-Some.heard (conns_of a es) (conns_of b fs) c.args.out.now.items c.hear_at-pass.new.out.items
+    (heard (conn_of_seat a e.0).0 (conn_of_seat a e.0).1 (conns_at a es c.args.i e.0 e.1)) lt c.requires.judges none))

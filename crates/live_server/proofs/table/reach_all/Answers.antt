@@ -1,5 +1,5 @@
 use Rattle.std.proofs.Common.{◌<◌, ◌≤◌, length, arith}
-use Rattle.live_server.proofs.ReachLemmas.{all_told, all_turned_by, one_lost, one_told, one_turn}
+use Rattle.live_server.proofs.ReachLemmas.{all_told, all_turned_by, one_lost, one_partly, one_told, one_turn}
 use Rattle.live_server.proofs.table.reach_all.Goals as goal
 
 pub loop-place-preserved : goal.loop-place-preserved
@@ -26,3 +26,7 @@ pub returns-clause-sent : goal.returns-clause-sent
 returns-clause-sent c =
     let past : length c.args.table.now.entries ≤ c.loop-place.place = omega (arith, c.loop-place.invariant.2, c.loop-place-test.false) in
     all_told c.args.measures c.args.now c.args.table.now.entries c.loop-place.place _ _ c.loop-place.invariant.1 past
+
+pub returns-in-Err-clause-wrote : goal.returns-in-Err-clause-wrote
+returns-in-Err-clause-wrote c =
+    one_partly c.args.measures c.args.now c.args.table.now.entries c.loop-place.place c.loop-place.table.entries c.loop-place.invariant.0 _ _ c.pair_mut-conn.ensures.value _ _ _ c.loop-place.invariant.1 c.in-Err.ensures.wrote

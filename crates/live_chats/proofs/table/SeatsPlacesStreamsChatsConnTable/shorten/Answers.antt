@@ -7,14 +7,16 @@ use Rattle.placed_parts.specs.Placing.{limits_of}
 use Rattle.live_server.specs.Told.Told.{hears}
 use Rattle.live_server.proofs.TableLemmas.{within_at}
 use Rattle.live_chats.specs.Accounts.{SeatsWereTold}
-use Rattle.live_chats.specs.Seating.{MetAt, conn_of_seat, conns_of}
+use Rattle.live_server.specs.Written.{HasSent}
+use Rattle.live_chats.specs.Hearing.{hearing}
+use Rattle.live_chats.specs.Seating.{MetAt, chat_of, conn_of_seat, conns_of}
 use Rattle.live_chats.specs.declared.seat.Seat.{Seat}
 use Rattle.live_chats.specs.declared.item.ChatItem.{ChatItem}
 use Rattle.live_chats.specs.declared.item.ChatItem.TheVariants.{Shortens}
 use Rattle.live_chats.proofs.HearLemmas.{shortens_keeps_ends}
-use Rattle.live_chats.proofs.MeetLemmas.{looked_up, path_met, path_sent, path_table, shortens_judge}
+use Rattle.live_chats.proofs.MeetLemmas.{looked_up, path_met, path_partly, path_sent, path_table, shortens_judge}
 use Rattle.live_chats.proofs.ListLemmas.{entry_there}
-use Rattle.live_chats.proofs.SeatLemmas.{conns_at, conns_length, of_some, table_told}
+use Rattle.live_chats.proofs.SeatLemmas.{conns_at, conns_length, none_of, of_some, table_told}
 use Rattle.live_chats.proofs.table.SeatsPlacesStreamsChatsConnTable.shorten.Goals as goal
 
 pub meet_at-pass-requires-clause-ends : goal.meet_at-pass-requires-clause-ends
@@ -79,3 +81,14 @@ returns-in-Some-clause-told g c =
   where
     pair_is : (x y : Tuple × Conn) → Some x ≡ Some y → x.0 ≡ y.0
     pair_is x y p = cc
+
+pub returns-in-None-clause-wrote : goal.returns-in-None-clause-wrote
+returns-in-None-clause-wrote g c =
+    let self = c.args.self.now in
+    let was = conns_of self.stays self.seats.entries in
+    let t = c.args._tuple.now in
+    let d : Conn = conn_at c.args.place was in
+    let wrote = none_of ((k : Tuple) (e : Conn) → slice_get was c.args.place ≡ Some (k, e)
+    → HasSent c.args.out.now.items c.meet_at-pass.new.out.items (hearing (Shortens c.args.seq c.args.most) (chat_of k e)).sent)
+    c.meet_at-pass.result.1 c.in-None.is c.meet_at-pass.ensures.wrote t d (looked_up t was c.args.place c.requires.place) in
+    path_partly c.args.seq c.args.most t d c.args.out.now.items c.meet_at-pass.new.out.items wrote

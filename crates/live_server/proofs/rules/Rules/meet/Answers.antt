@@ -7,7 +7,8 @@ use Rattle.live_server.specs.Serving.{ServerOf, arrives, server_of}
 use Rattle.live_server.specs.Table.{Conns, conn_at, replaced, IsNew}
 use Rattle.live_server.specs.Told.{told_arriving, told_opening}
 use Rattle.live_server.specs.Told.Told.{hears}
-use Rattle.live_server.proofs.ArriveLemmas.{gone_in_time, gone_sent, gone_server, gone_told, judged_sent, judged_server, judged_told, map_ok}
+use Rattle.live_server.specs.Written.{HasSent}
+use Rattle.live_server.proofs.ArriveLemmas.{gone_in_time, gone_partly, gone_sent, gone_server, gone_told, judged_sent, judged_server, judged_told, map_ok, met_partly}
 use Rattle.live_server.proofs.LawLemmas.{lost_at, lost_in_time}
 use Rattle.live_server.proofs.LossLemmas.{map_err, on_err}
 use Rattle.live_server.proofs.rules.Rules.meet.Goals as goal
@@ -99,3 +100,25 @@ returns-in-Gone-clause-told g c =
     ∙ gone_told c.args.now c.args.seg.now c.args.text.now before c.args.place c.requires.place (sym c.in-Gone.is ∙ c.in_ok-met.ensures.met ∙ ap (λ (m : Meeting). m.met) same)
     (record before { conns = here }) (ap (λ (l : Conns). record before { conns = l }) (c.in_ok-met.ensures.table ∙ ap (λ (m : Meeting). replaced c.args.place m.conn before.conns) same)) new)
     (g.met.T.ConnTable.tells_on c.args.self.now.table c.meet.new.self c.open.new.self.table _ _ c.in_ok-met.ensures.told told)) c.open.ensures.told
+
+pub returns-in_err-met-clause-wrote : goal.returns-in_err-met-clause-wrote
+returns-in_err-met-clause-wrote g c =
+    let before : ServerOf = server_of g.T.ConnTable.conns c.args.self.now in
+    let met : Meeting = meets c.args.now (number_for before.secret c.args.now c.args.seg.now) c.args.seg.now c.args.text.now (tuple_of c.args.seg.now) (conn_at c.args.place before.conns) in
+    let same : meets c.args.now c.number_for-iss.result c.args.seg.now c.args.text.now c.tuple_of-tuple.result (conn_at c.args.place before.conns) ≡ met =
+    λ j. meets c.args.now (c.number_for-iss.ensures j) c.args.seg.now c.args.text.now (c.tuple_of-tuple.ensures j) (conn_at c.args.place before.conns) in
+    on_err c.from_residual.result _ (met_partly c.args.now c.args.seg.now c.args.text.now before c.args.place c.requires.place c.args.out.now.items c.meet.new.out.items
+    (subst (λ (m : Meeting). HasSent c.args.out.now.items c.meet.new.out.items m.sent) same c.in_err-met.ensures.wrote))
+
+pub returns-in-Gone-clause-wrote : goal.returns-in-Gone-clause-wrote
+returns-in-Gone-clause-wrote g c =
+    let before : ServerOf = server_of g.T.ConnTable.conns c.args.self.now in
+    let here : Conns = g.T.ConnTable.conns c.meet.new.self in
+    let met : Meeting = meets c.args.now (number_for before.secret c.args.now c.args.seg.now) c.args.seg.now c.args.text.now (tuple_of c.args.seg.now) (conn_at c.args.place before.conns) in
+    let same : meets c.args.now c.number_for-iss.result c.args.seg.now c.args.text.now c.tuple_of-tuple.result (conn_at c.args.place before.conns) ≡ met =
+    λ j. meets c.args.now (c.number_for-iss.ensures j) c.args.seg.now c.args.text.now (c.tuple_of-tuple.ensures j) (conn_at c.args.place before.conns) in
+    let new : IsNew (tuple_of c.args.seg.now) here = subst (λ t. IsNew t here) c.tuple_of-tuple.ensures (c.in_ok-met.ensures.gone c.in-Gone.is) in
+    map_err c.open.result _ (HasSent c.args.out.now.items c.open.new.out.items (arrives c.args.now c.args.seg.now c.args.text.now before).sent)
+    (gone_partly c.args.now c.args.seg.now c.args.text.now before c.args.place c.requires.place (sym c.in-Gone.is ∙ c.in_ok-met.ensures.met ∙ ap (λ (m : Meeting). m.met) same)
+    (record before { conns = here }) (ap (λ (l : Conns). record before { conns = l }) (c.in_ok-met.ensures.table ∙ ap (λ (m : Meeting). replaced c.args.place m.conn before.conns) same)) new
+    c.args.out.now.items c.meet.new.out.items c.open.new.out.items (c.in_ok-met.ensures.sent ∙ ap (λ (m : Meeting). c.args.out.now.items ++ m.sent) same)) c.open.ensures.wrote

@@ -1,7 +1,9 @@
 use Rattle.std.proofs.Common.{◌≡◌, ◌++◌, ◌+◌, ◌-◌, ◌^◌, ◌∙◌, [], ap, arith, length, min, refl, sym, subst}
 use Rattle.live_server.specs.Serving.{ServerOf, arrives, on_segment, overfull, server_of}
 use Rattle.live_server.specs.Told.{told_arriving, told_segment}
+use Rattle.live_server.specs.Written.{HasSent}
 use Rattle.live_server.proofs.ArriveLemmas.{full_sent, full_server, full_told, held_sent, held_server, held_told, map_ok}
+use Rattle.live_server.proofs.LossLemmas.{map_err}
 use Rattle.live_server.proofs.rules.Rules.segment.Goals as goal
 
 pub returns-then-fits-clause-server : goal.returns-then-fits-clause-server
@@ -56,3 +58,21 @@ returns-else-fits-clause-told g c =
     (λ told. subst (λ ws. g.T.ConnTable.tells c.args.self.now.table ws c.arrive-else-fits.new.self.table)
     (ap (λ s. told_arriving c.args.now s [] (overfull sv)) c.without_text.ensures ∙ full_told c.args.now c.args.seg.now text sv (overfull sv) (sym c.if-fits.ensures) refl) told)
     c.arrive-else-fits.ensures.told
+
+pub returns-then-fits-clause-wrote : goal.returns-then-fits-clause-wrote
+returns-then-fits-clause-wrote g c =
+    let sv : ServerOf = server_of g.T.ConnTable.conns c.args.self.now in
+    let text = c.args.text.now in
+    let sum : c.saturating_add-self.result ≡ min (2 ^ 64 - 1) (sv.held + length text) = omega (arith, c.saturating_add-self.ensures) in
+    map_err c.arrive.result _ (HasSent c.args.out.now.items c.arrive.new.out.items (on_segment c.args.now c.args.seg.now text sv).sent)
+    (subst (HasSent c.args.out.now.items c.arrive.new.out.items) (held_sent c.args.now c.args.seg.now text sv (record sv { held = c.saturating_add-self.result }) (sym c.if-fits.ensures) (ap (λ h. record sv { held = h }) sum)))
+    c.arrive.ensures.wrote
+
+pub returns-else-fits-clause-wrote : goal.returns-else-fits-clause-wrote
+returns-else-fits-clause-wrote g c =
+    let sv : ServerOf = server_of g.T.ConnTable.conns c.args.self.now in
+    let text = c.args.text.now in
+    map_err c.arrive-else-fits.result _ (HasSent c.args.out.now.items c.arrive-else-fits.new.out.items (on_segment c.args.now c.args.seg.now text sv).sent)
+    (subst (HasSent c.args.out.now.items c.arrive-else-fits.new.out.items)
+    (ap (λ s. (arrives c.args.now s [] (overfull sv)).sent) c.without_text.ensures ∙ full_sent c.args.now c.args.seg.now text sv (overfull sv) (sym c.if-fits.ensures) refl))
+    c.arrive-else-fits.ensures.wrote
