@@ -1,6 +1,9 @@
 //! What is written out was served, and what was done was all that was asked.
 
 ghost use Rattle.std.specs.Prelude.{◌≡◌, ◌+◌, ◌∷◌, true, false, None, Some, [], sum, sum_by};
+ghost use Rattle.std.proofs.Common.{Global};
+ghost use Rattle.rtrb.specs.declared.AnyItems.{AnyItems};
+ghost use Rattle.rtrb.specs.declared.consumer.Consumer.{Consumer};
 ghost use Rattle.sq_base.specs.declared.kinds.Status.TheVariants as status;
 ghost use Rattle.sq_base.specs.declared.kinds.Tuple.{Tuple};
 ghost use Rattle.capture_reader.specs.Outcome.{CaptureFile};
@@ -250,13 +253,15 @@ pub fn a_history_with_a_close_fits()
     ensures legal { Legal Closed.setting Closed.history }
 {}
 
-/// There is a place that is closed: for items and steps of every kind, its part has had a feed for its only item, and took it. In a history
-/// without the feed it wasn't closed so.
+/// There is a place that is closed: for items and steps of every kind, its part has had a feed for its only item, and took it, from a state
+/// in which it may begin. In a history without the feed it wasn't closed so.
 pub fn there_is_a_close<X: Steps>()
     ensures closed { (o : X.Origin) (stay : Stay X.Item) (vacant : Vacant X.Item X.State) (item : X.Item) (from : X.State)
-        → IsClosed (X.step o) stay vacant item from → HasClosed (X.step o) stay vacant Closed.history }
+        (input : Consumer X.Item Global AnyItems) → IsClosed X.begins X.step o stay vacant item from input
+        → HasClosed X.begins X.step o stay vacant Closed.history }
     ensures refused { (o : X.Origin) (stay : Stay X.Item) (vacant : Vacant X.Item X.State) (item : X.Item) (from : X.State)
-        → IsClosed (X.step o) stay vacant item from → HasClosed (X.step o) stay vacant Closed.unfed → ⊥ }
+        (input : Consumer X.Item Global AnyItems) → IsClosed X.begins X.step o stay vacant item from input
+        → HasClosed X.begins X.step o stay vacant Closed.unfed → ⊥ }
 {
     a_history_with_a_close_fits();
 }
