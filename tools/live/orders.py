@@ -1,10 +1,17 @@
 """Orders of a host to its server, as docs/LIVE.md has them: the text of a datagram of UDP to the port of systat (RFC 866), from a port of the host
 that takes a right."""
+import contextlib
+import select
 import socket
+import time
 
 SYSTAT = 11
 # The ports that take a right, and that `bindresvport` gives away.
 PORTS = range(1023, 511, -1)
+# A server tells its counts once from one tick to the next, and how long it is asked beyond that, and after how long once more, in seconds.
+TICK, LATE, AGAIN = 0.02, 0.3, 0.1
+# What its rings tell that is no count: what is, at the moment.
+GAUGES = ("connections", "waiting", "held", "draining")
 
 
 def bound(host):
@@ -23,9 +30,49 @@ def bound(host):
     raise why
 
 
-def drain(orders, server):
-    """Tells a server to drain. A datagram may get lost, and the order may come again."""
+def give(orders, server, order):
+    """Sends a server an order. A datagram may get lost, and the order may come again."""
     try:
-        orders.sendto(b"drain", (str(server), SYSTAT))
+        orders.sendto(order, (str(server), SYSTAT))
     except BlockingIOError:
         pass  # a full queue: it is told again
+
+
+def drain(orders, server):
+    """Tells a server to drain."""
+    give(orders, server, b"drain")
+
+
+def counts(host, server, rings):
+    """What each of so many rings tells of itself; nothing where one of them doesn't in time. An order is given again where a ring told its counts just
+    before, or a datagram was lost. What answers it comes to a socket of its own, so that no ring counts twice."""
+    until, told = time.monotonic() + TICK + LATE, {}
+    with contextlib.ExitStack() as asked:
+        while (now := time.monotonic()) < until:
+            orders = asked.enter_context(bound(host))
+            give(orders, server, b"counts")
+            told[orders] = []
+            while ready := select.select(told, [], [], max(0, min(now + AGAIN, until) - time.monotonic()))[0]:
+                for answered in ready:
+                    text, (who, port) = answered.recvfrom(1 << 16)
+                    told[answered] += [text] if (who, port) == (str(server), SYSTAT) else []
+                    if len(told[answered]) == rings:
+                        return [{name: int(number) for name, number in map(str.split, answer.decode().splitlines())} for answer in told[answered]]
+    return []
+
+
+def sums(told):
+    """Facts of all rings together: what counts gets the name that Prometheus gives it."""
+    return {name if name in GAUGES else f"{name}_total": (max if name == "draining" else sum)(ring[name] for ring in told) for name in (told[0] if told else ())}
+
+
+class Counts:
+    """What a server tells of itself."""
+    def __init__(self, host, server, rings):
+        self.asked = host, server, rings
+
+    def facts(self):
+        try:
+            return sums(counts(*self.asked))
+        except (OSError, ValueError, KeyError):
+            return {}  # the right is missing, all ports are taken, or what answered is no server

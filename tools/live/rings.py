@@ -19,7 +19,7 @@ F_SETPIPE_SZ, PIPE = 1031, 1 << 20
 # What a queue counts, by direction: datagrams, their bytes, and those that the device refused; each direction in 64 bytes.
 COUNTS, DIRECTION = struct.Struct("QQQ"), 64
 # How often it is asked whether all is over, in seconds.
-LOOK = 0.02
+LOOK = 0.05
 
 
 def mover():
@@ -69,11 +69,8 @@ class Rings:
         each = [COUNTS.unpack_from(self.counts, DIRECTION * place) for place in range(2 * self.rings)]
         return list(zip(each[::2], each[1::2]))
 
-    def serve(self, is_over=None):
+    def serve(self, is_over):
         """Until the server ends, or all is over."""
-        if is_over is None:
-            self.server.wait()
-            return
         while self.server.poll() is None and not is_over():
             time.sleep(LOOK)
 

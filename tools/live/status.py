@@ -8,6 +8,8 @@ import threading
 import time
 from pathlib import Path
 
+import orders
+
 
 def places(device):
     """Where the socket may be: for root and for a service, and for a user. No other user may write there. Networks may have devices of equal names."""
@@ -77,7 +79,7 @@ def facts_of(device):
 
 
 # The facts that may fall, or say what is; all others count.
-GAUGES = ("open", "most_memory_kb", "rings")
+GAUGES = ("open", "most_memory_kb", "rings", *orders.GAUGES)
 # A fact of one ring, or of the answers of one status: the name that all such have, and what tells them apart.
 LABELLED = re.compile("(?P<ring>ring)_(?P<which>[0-9]+)_(?P<way>in|out)|(?P<answers>answers)_(?P<status>[0-9]+|other)")
 
@@ -99,24 +101,29 @@ def exposition(facts):
 
 
 def tell(device, follow, prometheus=False):
-    """What the server on a device met so far: a fact a line, or in the format of Prometheus, or to follow it a line a second until it ends. Whether
-    there is one."""
-    facts = facts_of(device)
+    """What the server on a device met so far: a fact a line, or in the format of Prometheus, or to follow it a line a second until it ends. Why that
+    isn't all, or None."""
+    facts = facts_of(device) or {}
     if prometheus:
-        print(end=exposition(facts or {}))
-        return bool(facts)
-    if not follow:
-        for fact, value in (facts or {}).items():
+        print(end=exposition(facts))
+    elif not follow:
+        for fact, value in facts.items():
             print(fact, value)
-        return bool(facts)
-    found = bool(facts)
+    why = why_not_all(device, facts)
     with contextlib.suppress(KeyboardInterrupt):
-        while facts:
+        while follow and not prometheus and facts:
             time.sleep(1)
             before, facts = facts, facts_of(device)
             if facts:
                 print(line_of_second(before, facts), flush=True)
-    return found
+    return why
+
+
+def why_not_all(device, facts):
+    """Why there are no facts, or none of the server's own; None where there are."""
+    if not facts:
+        return f"sqlive: no tools/sqlive runs on {device} in this network namespace"
+    return None if orders.GAUGES[0] in facts else "sqlive: the server told no counts"
 
 
 def line_of_second(before, now):

@@ -15,6 +15,7 @@ import struct
 import subprocess
 import sys
 import tempfile
+import threading
 import time
 import unittest
 from importlib.machinery import SourceFileLoader
@@ -26,6 +27,7 @@ from common import TOOLS, TOP, need
 sys.path.insert(0, str(TOOLS / "live"))
 import floods
 import http_model
+import orders
 import pages
 import resets
 import rings
@@ -334,7 +336,8 @@ class Status(unittest.TestCase):
         self.assertRegex(said.getvalue(), "^sqlive: it serves without status: .*\n$")
 
     def test_the_format_of_prometheus(self):
-        facts = {"seconds": "1.5", "open": 3, "ring_0_in": 5, "ring_0_out": 6, "ring_1_in": 7, "ring_1_out": 8, "answers": 3, "answers_200": 2, "answers_other": 1}
+        facts = {"seconds": "1.5", "open": 3, "ring_0_in": 5, "ring_0_out": 6, "ring_1_in": 7, "ring_1_out": 8, "answers": 3, "answers_200": 2, "answers_other": 1,
+                 "connections": 2, "opened_total": 5}
         self.assertEqual(status.exposition(facts), """# TYPE sqlive_seconds counter
 sqlive_seconds 1.5
 # TYPE sqlive_open gauge
@@ -350,12 +353,62 @@ sqlive_answers 3
 # TYPE sqlive_answers_by_status counter
 sqlive_answers_by_status{status="200"} 2
 sqlive_answers_by_status{status="other"} 1
+# TYPE sqlive_connections gauge
+sqlive_connections 2
+# TYPE sqlive_opened_total counter
+sqlive_opened_total 5
 """)
+
+    def test_why_that_is_not_all(self):
+        self.assertRegex(status.why_not_all("sqlive0", {}), "no tools/sqlive runs on sqlive0")
+        self.assertRegex(status.why_not_all("sqlive0", {"open": "3"}), "told no counts")
+        self.assertIsNone(status.why_not_all("sqlive0", {"open": "3", "connections": "3"}))
 
     def test_only_this_machines_users_may_write_there(self):
         self.doCleanups()
         self.assertEqual([place.parent for place in status.places("sqlive0")][0], Path("/run/sqlive"))
         self.assertTrue(all(place.name.startswith("sqlive0-") and place.is_absolute() for place in status.places("sqlive0")))
+
+
+class Orders(unittest.TestCase):
+    """What the rings of a server tell their host."""
+    HOST, SERVER = "127.0.0.1", "127.0.0.2"
+
+    def serve(self, *answers):
+        """A server at whose systat each order gets as many answers as it has texts here, and later ones none."""
+        try:
+            server = socket.socket(socket.AF_INET, socket.SOCK_DGRAM)
+            self.addCleanup(server.close)
+            server.bind((self.SERVER, orders.SYSTAT))
+            orders.bound(self.HOST).close()
+        except PermissionError:
+            self.skipTest("no right to ports below 1,024")
+
+        def answer():
+            for texts in answers:
+                order, asks = server.recvfrom(100)
+                self.asked.append((order, asks[1] < 1024))
+                for text in texts:
+                    server.sendto(text, asks)
+
+        self.asked = []
+        threading.Thread(target=answer, daemon=True).start()
+
+    def test_all_rings_together(self):
+        self.serve([b"connections 1\nopened 2\n"], [b"connections 2\nopened 3\n", b"connections 5\nopened 8\n"])
+        self.assertEqual(orders.Counts(self.HOST, self.SERVER, 2).facts(), {"connections": 7, "opened_total": 11})
+        self.assertEqual(self.asked, [(b"counts", True)] * 2)
+
+    def test_one_that_does_not_answer(self):
+        self.serve([b"connections 1\n"], [], [b"connections 1\n"])
+        self.assertEqual(orders.Counts(self.HOST, self.SERVER, 2).facts(), {})
+
+    def test_what_is_no_count(self):
+        self.serve([b"connections\n"])
+        self.assertEqual(orders.Counts(self.HOST, self.SERVER, 1).facts(), {})
+
+    def test_one_ring_drains(self):
+        self.assertEqual(orders.sums([{"draining": 1, "held": 3}, {"draining": 1, "held": 4}]), {"draining": 1, "held": 7})
 
 
 class Compiled(unittest.TestCase):
