@@ -5,6 +5,7 @@ use squeue_arrivals::SPAN;
 use std::env::Env;
 use std::process::ExitCode;
 use std::sync::Wait;
+use std::sync::atomic::AtomicU32;
 use std::thread::Threads;
 use std::time::Clock;
 use std::{env, io};
@@ -60,7 +61,8 @@ fn run_words<W: Env + AllocGlobal + Print + Threads + Wait + Clock + Sync>(
         },
         span: SPAN,
     };
-    let left = sum_for(rt, rt.alloc(), size)?;
+    let looked = AtomicU32::new(0);
+    let left = sum_for(rt, rt.alloc(), &looked, size)?;
     println!(rt; "rings {rings} room {room} {}", left.end)?;
     Ok(true)
 }

@@ -12,8 +12,9 @@ use squeue_enter::Mode;
 use std::alloc::{AllocError, Global};
 use std::io;
 use std::sync::Wait;
+use std::sync::atomic::AtomicU32;
 use std::thread::Threads;
-use std::time::Clock;
+use std::time::{Clock, Instant};
 
 /// How many rings there are, how many entries may be queued at once, how long amounts are brought, and after how many amounts the place of
 /// a ring is opened anew.
@@ -40,10 +41,11 @@ pub struct RunEnd<'a, W: Clock> {
 const BUDGET: u32 = 64;
 
 /// Brings amounts by so many rings until their stints are over, prints what each look has seen, and answers the total at the end. The first ring
-/// alone rests. Fails for want of memory, and where a look could not be printed.
+/// alone rests. Looks are counted in `looked`, which is 0. Fails for want of memory, and where a look could not be printed.
 pub fn sum_for<'a, W: Threads + Wait + Clock + Print + Sync>(
     rt: &'a W,
     alloc: Global,
+    looked: &'a AtomicU32,
     size: Size,
 ) -> io::Result<RunEnd<'a, W>>
     requires rings { (1 ≤ size.rings) × (size.rings ≤ 62) }
@@ -63,9 +65,11 @@ pub fn sum_for<'a, W: Threads + Wait + Clock + Print + Sync>(
     };
     let watcher = Seconds {
         rt,
+        looked,
+        start: Instant::now(rt).ok(),
         seconds: size.stint.seconds,
     };
-    let sources = new_sources(rt, alloc, size)?;
+    let sources = new_sources(rt, alloc, looked, size)?;
     let served = serve_watched(rt, alloc, &pool, Adding, &watcher, sources)?;
     let rings = served.sources;
     let mut squeues = served.squeues;
@@ -83,6 +87,7 @@ pub fn sum_for<'a, W: Threads + Wait + Clock + Print + Sync>(
 fn new_sources<'a, W: Clock>(
     rt: &'a W,
     alloc: Global,
+    looked: &'a AtomicU32,
     size: Size,
 ) -> Result<Vec<Amounts<'a, W>>, AllocError>
     ensures { IfOk result (λ v. AreNew size.rings size.stint.rounds v.items) }
@@ -92,6 +97,7 @@ fn new_sources<'a, W: Clock>(
         let pause = if ring == 0 { size.stint.pause } else { 0 };
         sources.push_reserved(Amounts::of(
             rt,
+            looked,
             Stint {
                 pause,
                 ..size.stint

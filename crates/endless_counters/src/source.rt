@@ -4,16 +4,21 @@ ghost use Rattle.squeue_arrivals.specs.Giving.{given_by};
 ghost use Rattle.endless_counters.specs.Rounds.{AreRounds, HasDone};
 
 use squeue_arrivals::{Arrival, Arrivals, GivenItems};
+use std::sync::atomic::{AtomicU32, Ordering};
 use std::thread;
 use std::time::{Clock, Duration, Instant};
 
 /// So many amounts there are in a round.
 pub const ROUND: u32 = 1_000;
 
+// So many seconds a ring goes on for a look that is late.
+const LATE: u64 = 10;
+
 // So many rounds there are in the life of a ring, which serves 2^49 items.
 const MOST: u64 = 562_949_953_421;
 
-/// How long a ring gives amounts: so many seconds, and so many rounds at least; and how many microseconds it rests after each amount.
+/// How long a ring gives amounts: so many seconds, and so many rounds at least; and how many microseconds it rests after each amount. There is a look
+/// in each of the seconds.
 #[derive(Clone, Copy)]
 pub struct Stint {
     pub seconds: u32,
@@ -21,11 +26,12 @@ pub struct Stint {
     pub pause: u32,
 }
 
-/// Rounds of amounts, one at least, until the stint is over. The seconds are over too where the clock fails, and the stint with the 562949953421st
-/// round. The amounts have one key, 0.
+/// Rounds of amounts, one at least, until the stint is over. Where the last look is late, they go on for up to ten seconds, so that it finds them.
+/// The seconds are over too where the clock fails, and the stint with the 562949953421st round. The amounts have one key, 0.
 #[derive(Drop)]
 pub struct Amounts<'r, W: Clock> {
     rt: &'r W,
+    looked: &'r AtomicU32,
     stint: Stint,
     start: Option<Instant>,
     rounds: u64,
@@ -39,13 +45,14 @@ pub struct Amounts<'r, W: Clock> {
 impl<'r, W: Clock> Amounts<'r, W> {
     ghost use Rattle.endless_counters.specs.Sources.{amounts_by, stint_of};
 
-    /// The amounts of a stint that begins now, of which none was given.
-    pub fn of(rt: &'r W, stint: Stint) -> Amounts<'r, W>
+    /// The amounts of a stint that begins now, of which none was given. The number of looks so far stands in `looked`.
+    pub fn of(rt: &'r W, looked: &'r AtomicU32, stint: Stint) -> Amounts<'r, W>
         ensures stint { stint_of result ≡ stint }
         ensures none { amounts_by result ≡ [] }
     {
         Amounts {
             rt,
+            looked,
             stint,
             start: Instant::now(rt).ok(),
             rounds: 0,
@@ -73,15 +80,24 @@ impl<'r, W: Clock> Amounts<'r, W> {
         self.rounds >= least && self.is_over()
     }
 
-    // Whether the seconds are over.
+    // Whether the seconds are over, and all looks were made or are late.
     fn is_over(&self) -> bool {
         let Some(start) = self.start else {
             return true;
         };
         match start.elapsed(self.rt) {
-            Ok(time) => time.as_secs() >= u64::from(self.stint.seconds),
+            Ok(time) => self.is_late(time.as_secs()),
             Err(_) => true,
         }
+    }
+
+    // Whether so many seconds are as many as the stint has, with all looks made, or so many more that these are late.
+    fn is_late(&self, passed: u64) -> bool {
+        let seconds = u64::from(self.stint.seconds);
+        if passed < seconds {
+            return false;
+        }
+        self.looked.load(Ordering::SeqCst) >= self.stint.seconds || passed >= seconds + LATE
     }
 
     // Sleeps for as long as it is to after each amount, where there was one.

@@ -6,6 +6,7 @@ use crate::source::Stint;
 use squeue_arrivals::SPAN;
 use std::process::Abort;
 use std::sync::Wait;
+use std::sync::atomic::AtomicU32;
 use std::test::*;
 use std::thread::Threads;
 use std::time::Clock;
@@ -13,13 +14,14 @@ use std::time::Clock;
 // What is left of a run by so many rings, each of which has brought so many rounds of the amounts 0 to 999. All are counted.
 fn counts<'a, W: Threads + Wait + Clock + Print + Sync + AllocGlobal + Abort>(
     rt: &'a W,
+    looked: &'a AtomicU32,
     size: Size,
 ) -> RunEnd<'a, W>
     requires rings { (1 ≤ size.rings) × (size.rings ≤ 62) }
     requires room { (1 ≤ size.room) × (size.room ≤ 2 ^ 30) }
 {
     let rounds = u64::from(size.rings).saturating_mul(u64::from(size.stint.rounds));
-    let left = sum_for(rt, rt.alloc(), size).expect(rt, "a run");
+    let left = sum_for(rt, rt.alloc(), looked, size).expect(rt, "a run");
     assert_eq!(rt; left.end.amounts, rounds.saturating_mul(1_000));
     assert_eq!(rt; left.end.total, rounds.saturating_mul(499_500));
     left
@@ -44,7 +46,8 @@ fn places_are_opened_anew(rt: HostRuntime) {
             stint: rounds(1),
             span,
         };
-        let left = counts(&rt, size);
+        let looked = AtomicU32::new(0);
+        let left = counts(&rt, &looked, size);
         assert!(rt; left.squeue.last.is_none());
     }
 }
@@ -59,7 +62,8 @@ fn rooms_are_full(rt: HostRuntime) {
             stint: rounds(2),
             span: SPAN,
         };
-        let _left = counts(&rt, size);
+        let looked = AtomicU32::new(0);
+        let _left = counts(&rt, &looked, size);
     }
 }
 
@@ -79,7 +83,8 @@ fn one_ring_is_slow(rt: HostRuntime) {
             stint,
             span: SPAN,
         };
-        let left = sum_for(&rt, rt.alloc(), size).expect(&rt, "a run");
+        let looked = AtomicU32::new(0);
+        let left = sum_for(&rt, rt.alloc(), &looked, size).expect(&rt, "a run");
         let mut brought = 0u64;
         for ring in &left.rings {
             let count = ring.source.count();
@@ -107,7 +112,8 @@ fn who_looks_sees_a_beginning(rt: HostRuntime) {
         stint,
         span: SPAN,
     };
-    let left = sum_for(&rt, rt.alloc(), size).expect(&rt, "a run");
+    let looked = AtomicU32::new(0);
+    let left = sum_for(&rt, rt.alloc(), &looked, size).expect(&rt, "a run");
     let last = left.squeue.last.expect(&rt, "a look");
     assert!(rt; left.squeue.told);
     assert!(rt; last.amounts > 0);

@@ -5,13 +5,16 @@ ghost use Rattle.endless_counters.specs.Counting.{AreSummed, held_at};
 use crate::totals::Total;
 use squeue_arrivals::Watches;
 use squeue_streams::Stream;
+use std::sync::atomic::{AtomicU32, Ordering};
 use std::thread;
-use std::time::{Clock, Duration};
+use std::time::{Clock, Duration, Instant};
 
-/// A look in each of so many seconds.
+/// A look at the end of each of so many seconds, from a start on, where there is one. How many were made is counted.
 #[derive(Drop)]
 pub struct Seconds<'r, W> {
     pub rt: &'r W,
+    pub looked: &'r AtomicU32,
+    pub start: Option<Instant>,
     pub seconds: u32,
 }
 
@@ -26,8 +29,14 @@ impl<W: Clock + Print> Watches<u32, Total> for Seconds<'_, W> {
         self.seconds
     }
 
-    fn wait(&self, _look: u32) {
-        thread::sleep(self.rt, Duration::from_secs(1));
+    fn wait(&self, look: u32) {
+        let mut left = Duration::from_secs(1);
+        if let Some(start) = self.start {
+            if let Ok(passed) = start.elapsed(self.rt) {
+                left = Duration::from_secs(u64::from(look) + 1).saturating_sub(passed);
+            }
+        }
+        thread::sleep(self.rt, left);
     }
 
     fn read(&self, parts: &[Option<Stream<u32, Total>>]) -> Total {
@@ -39,6 +48,7 @@ impl<W: Clock + Print> Watches<u32, Total> for Seconds<'_, W> {
     }
 
     fn tell(&self, _squeue: u32, look: u32, seen: &Total) -> bool {
+        self.looked.fetch_add(1, Ordering::SeqCst);
         println!(self.rt; "second {look} {seen}").is_ok()
     }
 }
