@@ -105,5 +105,17 @@ class Edits(unittest.TestCase):
         self.assertIn("crates/none/more-edits has no edit", self.tried("none", status=2))
 
 
+class Standing(unittest.TestCase):
+    def test_each_old_line_stands_once(self):
+        """What an edit replaces stands once in its file, as the code is now."""
+        for edit in sorted((TOOLS.parent / "crates").glob("*/*-*/*.edit")):
+            words = [line.partition(": ") for line in edit.read_text(encoding="utf-8").splitlines()]
+            file = next(text for key, _, text in words if key == "file")
+            code = (edit.parents[1] / file).read_text(encoding="utf-8")
+            for key, _, old in words:
+                if key == "old":
+                    self.assertEqual(code.count(old), 1, edit)
+
+
 if __name__ == "__main__":
     unittest.main()
