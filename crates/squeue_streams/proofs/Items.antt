@@ -32,17 +32,37 @@ pub all_left : {T : Type 0} (xs more ys : List T) → length more ≡ 0 → xs +
 all_left xs [] ys none is = sym (append-nil xs) ∙ is
 all_left xs (y ∷ more) ys none is = absurd (let e : length (y ∷ more) ≡ 0 = none in omega (arith, e))
 
+-- one more than a number that is counted modulo 2^64
+one_more : (n count : ℕ) → count ≡ n % 2 ^ 64 → (count + 1) % 2 ^ 64 ≡ (n + 1) % 2 ^ 64
+one_more n count is = ap (λ (k : ℕ). (k + 1) % 2 ^ 64) is ∙ mod-add-mod n (2 ^ 64) 1
+
 module _ {T S : Type 0} where
   -- a feed below the limit can be counted
   pub counted : (stream : Stream T S) (count n c : ℕ) → HasFed (HasTaken stream) n → n < slice_index (replicate count most_feeds) c → stream.had < most_feeds
   counted stream count n c was below = omega (arith, was.stands.feeds, was.feeds, below, limit_within count most_feeds c)
 
+  -- a feed takes one item
   pub taken_more : (n : ℕ) (stream next : Stream T S) (x : T) (had : List Act) → received next.input ≡ received stream.input ++ x ∷ [] → next.had ≡ stream.had + 1
-      → HasTaken stream had → HasTaken next (had ++ Did.Feed n ∷ [])
-  taken_more n stream next x had popped more h =
+      → next.beside ≡ stream.beside → next.count ≡ (stream.count + 1) % 2 ^ 64 → HasTaken stream had → HasTaken next (had ++ Did.Feed n ∷ [])
+  taken_more n stream next x had popped more same count h =
+      let sum : stream.beside + stream.had + 1 ≡ next.beside + next.had = omega (arith, same, more) in
       record {
         feeds = fed-append had (Did.Feed n ∷ []) ∙ omega (arith, h.feeds, more);
         popped = omega (arith, more, h.popped, ap length popped, length-append (received stream.input) (x ∷ []));
+        each = count ∙ (one_more (stream.beside + stream.had) stream.count h.each ∙ ap (λ (k : ℕ). k % 2 ^ 64) sum);
+      }
+
+  -- or one is taken beside the feeds
+  taken_beside : (stream next : Stream T S) (x : T) (had : List Act) → received next.input ≡ received stream.input ++ x ∷ [] → next.had ≡ stream.had
+      → next.beside ≡ (stream.beside + 1) % 2 ^ 64 → next.count ≡ (stream.count + 1) % 2 ^ 64 → HasTaken stream had → HasTaken next had
+  taken_beside stream next x had popped same more count h =
+      let sum : stream.beside + stream.had + 1 ≡ stream.beside + 1 + stream.had = omega arith in
+      record {
+        feeds = h.feeds ∙ sym same;
+        popped = omega (arith, same, h.popped, ap length popped, length-append (received stream.input) (x ∷ []));
+        each =
+            count ∙ (one_more (stream.beside + stream.had) stream.count h.each ∙ (ap (λ (k : ℕ). k % 2 ^ 64) sum
+            ∙ (sym (mod-add-mod (stream.beside + 1) (2 ^ 64) stream.had) ∙ sym (λ i. (more i + same i) % 2 ^ 64))));
       }
 
   pub stream_more : {O : Type 0} (begins : O → ℕ → Consumer T Global AnyItems → S → Type 0) (step : O → S → T → S → Type 0) (o : O) (c : ℕ) (stream next : Stream T S) (x : T)
@@ -55,8 +75,8 @@ module _ {T S : Type 0} where
         its_ring = same_end is.first_input stream.input next.input is.its_ring ring;
         taken = subst (λ (xs : List T). Takes (step o) is.first xs next.state) (sym popped) (takes_more (step o) is.first stream.state next.state (received stream.input) x is.taken one);
         counted =
-            more ∙ (ap (λ (n : ℕ). (n + 1) % 2 ^ 64) is.counted ∙ (mod-add-mod (length (received stream.input)) (2 ^ 64) 1
-            ∙ ap (λ (n : ℕ). n % 2 ^ 64) (sym (ap length popped ∙ length-append (received stream.input) (x ∷ [])))));
+            more ∙ (one_more (length (received stream.input)) stream.count is.counted
+            ∙ ap (λ (n : ℕ). n % 2 ^ 64) (sym (ap length popped ∙ length-append (received stream.input) (x ∷ []))));
       }
 
   -- a stream from which nothing was popped is what it begins with
@@ -74,13 +94,9 @@ module _ {T S : Type 0} where
 
   -- a call changes nothing
   pub called : (j k : ℕ) (stream : Stream T S) (had : List Act) → HasTaken stream had → HasTaken stream (had ++ Did.Call j k ∷ [])
-  called j k stream had h = record { feeds = fed-append had (Did.Call j k ∷ []) ∙ omega (arith, h.feeds); popped = h.popped }
+  called j k stream had h = record { feeds = fed-append had (Did.Call j k ∷ []) ∙ omega (arith, h.feeds); popped = h.popped; each = h.each }
 
-  -- a stream that is put in again has had no feeds
-  pub taken_none : (stream : Stream T S) → stream.had ≡ 0 → HasTaken stream []
-  taken_none stream none = record { feeds = sym none; popped = omega (arith, none) }
-
-  -- and is what it was
+  -- a stream that is put in again is what it was
   pub stream_same : {O : Type 0} (begins : O → ℕ → Consumer T Global AnyItems → S → Type 0) (step : O → S → T → S → Type 0) (o : O) (c : ℕ) (stream next : Stream T S)
       → next.input ≡ stream.input → next.state ≡ stream.state → next.count ≡ stream.count → IsStreamOf begins step o c stream → IsStreamOf begins step o c next
   stream_same begins step o c stream next input state count is =
@@ -95,12 +111,11 @@ module _ {T S : Type 0} where
 
   -- a look at the ring takes nothing
   pub has_looked : {O : Type 0} (begins : O → ℕ → Consumer T Global AnyItems → S → Type 0) (step : O → S → T → S → Type 0) (o : O) (stream next : Stream T S)
-      → SameConsumer stream.input next.input → received next.input ≡ received stream.input → next.state ≡ stream.state → next.had ≡ stream.had → next.count ≡ stream.count → HasTakenMore begins step o stream next
-  has_looked begins step o stream next ring popped state had count =
+      → SameConsumer stream.input next.input → received next.input ≡ received stream.input → next.state ≡ stream.state → next.had ≡ stream.had → next.beside ≡ stream.beside → next.count ≡ stream.count → HasTakenMore begins step o stream next
+  has_looked begins step o stream next ring popped state had beside count =
       record {
         ring = ring;
-        feeds = had;
-        more = omega (arith, ap length popped);
+        stands = λ notes h. record { feeds = h.feeds ∙ sym had; popped = rw (had, popped) h.popped; each = rw (count, beside, had) h.each };
         its = λ c is.
             record {
               first = is.first;
@@ -114,22 +129,19 @@ module _ {T S : Type 0} where
 
   -- one item more is more
   pub has_one_more : {O : Type 0} (begins : O → ℕ → Consumer T Global AnyItems → S → Type 0) (step : O → S → T → S → Type 0) (o : O) (stream next : Stream T S) (x : T)
-      → SameConsumer stream.input next.input → received next.input ≡ received stream.input ++ x ∷ [] → next.had ≡ stream.had → step o stream.state x next.state → next.count ≡ (stream.count + 1) % 2 ^ 64 → HasTakenMore begins step o stream next
-  has_one_more begins step o stream next x ring popped had one more =
+      → SameConsumer stream.input next.input → received next.input ≡ received stream.input ++ x ∷ [] → next.had ≡ stream.had → next.beside ≡ (stream.beside + 1) % 2 ^ 64 → step o stream.state x next.state → next.count ≡ (stream.count + 1) % 2 ^ 64
+      → HasTakenMore begins step o stream next
+  has_one_more begins step o stream next x ring popped had beside one more =
       record {
         ring = ring;
-        feeds = had;
-        more = omega (arith, ap length popped, length-append (received stream.input) (x ∷ []));
+        stands = λ notes. taken_beside stream next x notes popped had beside more;
         its = λ c is. stream_more begins step o c stream next x is ring popped one more;
       }
 
   pub has_more_on : {O : Type 0} (begins : O → ℕ → Consumer T Global AnyItems → S → Type 0) (step : O → S → T → S → Type 0) (o : O) (a b c : Stream T S) → HasTakenMore begins step o a b → HasTakenMore begins step o b c → HasTakenMore begins step o a c
   has_more_on begins step o a b c x y =
-      let less = x.more in
-      let few = y.more in
       record {
         ring = same_end a.input b.input c.input x.ring y.ring;
-        feeds = y.feeds ∙ x.feeds;
-        more = omega (arith, less, few);
+        stands = λ had h. y.stands had (x.stands had h);
         its = λ d is. y.its d (x.its d is);
       }

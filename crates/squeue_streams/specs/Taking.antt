@@ -1,5 +1,5 @@
 -- What a stream stands for, and which items its state is made of.
-use Rattle.std.specs.Prelude.{◌≡◌, ◌-◌, ◌%◌, ◌^◌, ◌≤◌, ℕ, List, [], ◌∷◌, length, replicate}
+use Rattle.std.specs.Prelude.{◌≡◌, ◌+◌, ◌-◌, ◌%◌, ◌^◌, ◌≤◌, ℕ, List, [], ◌∷◌, length, replicate}
 use Rattle.std.proofs.Common.{Global}
 use Rattle.perimeter_core.specs.declared.entries.Act.{Act}
 use Rattle.perimeter_core.specs.History.{Limits}
@@ -23,10 +23,6 @@ module _ {T S : Type 0} where
   abbrev pub state_of : Stream T S → S
   state_of stream = stream.state
 
-  -- how many feeds it has had since it was put in
-  abbrev pub feeds_of : Stream T S → ℕ
-  feeds_of stream = stream.had
-
   -- how many items were ever popped, modulo 2^64
   abbrev pub count_of : Stream T S → ℕ
   count_of stream = stream.count
@@ -35,10 +31,12 @@ module _ {T S : Type 0} where
   abbrev pub items_of : Stream T S → List T
   items_of stream = received stream.input
 
-  -- a stream has had as many feeds as it counts since it was put in, and at least as many items were ever popped
+  -- A stream has had as many feeds as it counts since it was put in, and at least as many items were ever popped. Each feed popped one:
+  -- all others are counted beside them.
   pub record HasTaken (stream : Stream T S) (had : List Act) : Type 0 where
     pub feeds : fed had ≡ stream.had
     pub popped : stream.had ≤ length (received stream.input)
+    pub each : stream.count ≡ (stream.beside + stream.had) % 2 ^ 64
 
   -- The state of stream c is what the steps make of all items that were popped, in order, from one in which it may begin with this end of
   -- a ring, of which it still holds the same end; and the stream counts these items
@@ -51,12 +49,11 @@ module _ {T S : Type 0} where
     pub taken : Takes (step o) first (received stream.input) stream.state
     pub counted : stream.count ≡ length (received stream.input) % 2 ^ 64
 
-  -- The stream has taken some items more, and no feed: it is still that of each number of which it was, as often fed
+  -- The stream has taken some items more, and no feed: it stands for what it stood for, and is still that of each number of which it was
   pub record HasTakenMore {O : Type 0} (begins : O → ℕ → Consumer T Global AnyItems → S → Type 0)
       (step : O → S → T → S → Type 0) (o : O) (from to : Stream T S) : Type 0 where
     pub ring : SameConsumer from.input to.input
-    pub feeds : feeds_of to ≡ feeds_of from
-    pub more : length (items_of from) ≤ length (items_of to)
+    pub stands : (had : List Act) → HasTaken from had → HasTaken to had
     pub its : (c : ℕ) → IsStreamOf begins step o c from → IsStreamOf begins step o c to
 
 module _ {X H T S O : Type 0} where

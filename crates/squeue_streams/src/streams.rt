@@ -1,10 +1,10 @@
 //! The parts: what is made of the items of each stream.
 ghost use Rattle.std.specs.Prelude.{◌≡◌, ◌+◌, ◌<◌, ℕ, [], ◌∷◌, ◌++◌, IfOk, length};
-ghost use Rattle.std.proofs.Common.{Global, List};
+ghost use Rattle.std.proofs.Common.{Global};
 ghost use Rattle.rtrb.specs.declared.AnyItems.{AnyItems};
 ghost use Rattle.rtrb.specs.declared.consumer.Consumer.{Consumer};
 ghost use Rattle.rtrb.specs.Ring.{IsPair, ProducerLooked, SameConsumer, known_items, received, sent};
-ghost use Rattle.squeue_streams.specs.Taking.{HasTakenMore, calls_of, count_of, feeds_of, input_of, items_of, state_of, steps_of, streams_of};
+ghost use Rattle.squeue_streams.specs.Taking.{HasTaken, HasTakenMore, calls_of, count_of, input_of, items_of, state_of, steps_of, streams_of};
 
 use placed_parts::Parts;
 use rtrb::{Consumer, Producer, RingBuffer};
@@ -40,13 +40,14 @@ pub trait Steps {
 }
 
 /// A stream at its squeue: the end of its ring that pops, what was made of the items that were popped, how many feeds it has had
-/// since it was put in, and how many items were popped in all, modulo 2^64.
+/// since it was put in, and how many items were popped, in all and beside these feeds, both modulo 2^64.
 #[derive(Drop)]
 pub struct Stream<T: Drop, S: Drop> {
     input: Consumer<T>,
     pub state: S,
     had: u32,
     count: u64,
+    beside: u64,
 }
 
 impl<T: Drop, S: Drop> Stream<T, S> {
@@ -55,13 +56,14 @@ impl<T: Drop, S: Drop> Stream<T, S> {
         ensures input { input_of result ≡ input }
         ensures state { state_of result ≡ state }
         ensures count { count_of result ≡ 0 }
-        ensures feeds { feeds_of result ≡ 0 }
+        ensures stands { HasTaken result [] }
     {
         Stream {
             input,
             state,
             had: 0,
             count: 0,
+            beside: 0,
         }
     }
 
@@ -70,13 +72,14 @@ impl<T: Drop, S: Drop> Stream<T, S> {
         ensures input { input_of result ≡ input_of self }
         ensures state { state_of result ≡ state_of self }
         ensures count { count_of result ≡ count_of self }
-        ensures feeds { feeds_of result ≡ 0 }
+        ensures stands { HasTaken result [] }
     {
         Stream {
             input: self.input,
             state: self.state,
             had: 0,
             count: self.count,
+            beside: self.count,
         }
     }
 
@@ -157,6 +160,7 @@ impl<X: Steps + Drop, H: Wait + Drop> Streams<X, H> {
         let item = stream.input.pop_known();
         self.steps.take(alloc, &mut stream.state, item);
         stream.count = stream.count.wrapping_add(1);
+        stream.beside = stream.beside.wrapping_add(1);
     }
 
     /// The next item of a ring. It waits for it.
@@ -175,7 +179,7 @@ impl<X: Steps + Drop, H: Wait + Drop> Streams<X, H> {
 }
 
 impl<X: Steps + Drop, H: Wait + Drop> Parts for Streams<X, H> {
-    ghost use Rattle.squeue_streams.specs.Taking.{HasTaken, IsStreamOf, limits_of};
+    ghost use Rattle.squeue_streams.specs.Taking.{IsStreamOf, limits_of};
     ghost use Rattle.std.proofs.Common.{sym, ◌∙◌};
 
     type Part = Stream<X::Item, X::State>;

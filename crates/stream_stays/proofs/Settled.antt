@@ -1,5 +1,5 @@
 -- What holds of a part that has taken all, of a resident to which nothing else was done, and of the places.
-use Rattle.std.proofs.Common.{◌≡◌, ◌≢◌, Global, ℕ, ◌==◌, ◌≤◌, Bool, true, false, if◌then◌else◌, Option, Some, None, List, [], length, refl, ap, sym, ◌∙◌, subst, arith}
+use Rattle.std.proofs.Common.{◌≡◌, ◌≢◌, Global, ℕ, ◌==◌, Bool, true, false, if◌then◌else◌, Option, Some, None, List, [], refl, ap, sym, ◌∙◌, subst, arith}
 use Rattle.std.specs.Prelude.{slice_get}
 use Rattle.std.proofs.lemmas.Bool.Decides.{nat_tests}
 use Rattle.rtrb.specs.declared.AnyItems.{AnyItems}
@@ -15,7 +15,6 @@ use Rattle.placed_parts.specs.Placing.{MayBe, Stands, origin_of}
 use Rattle.placed_parts.specs.Standing.{InOrder, PlaceAt}
 use Rattle.placed_parts.specs.PlaceLaws.{places_same_feeds}
 use Rattle.squeue_streams.specs.declared.streams.Stream.{Stream}
-use Rattle.squeue_streams.specs.Taking.{HasTaken, feeds_of as had_of, items_of}
 use Rattle.stream_stays.specs.declared.place.Place.{Place}
 use Rattle.stream_stays.specs.declared.place.Place.TheVariants.{Open, Out, Vacant as Vacant'}
 use Rattle.stream_stays.specs.declared.place.Stays.{Stays}
@@ -48,10 +47,6 @@ module _ {T : Type 0} where
       }
 
 module _ {T S : Type 0} where
-  -- a part that has taken more has had what it had
-  pub had_still : (a b : Stream T S) (had : List Act) → had_of b ≡ had_of a → length (items_of a) ≤ length (items_of b) → HasTaken a had → HasTaken b had
-  had_still a b had same more h = let few = h.popped in record { feeds = h.feeds ∙ sym same; popped = omega (arith, same, few, more) }
-
   at_self : (a : Option (Place T S)) → SameAt a a
   at_self None = refl
   at_self (Some (Vacant' v)) = refl

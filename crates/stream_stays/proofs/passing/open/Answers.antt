@@ -1,5 +1,5 @@
 use Rattle.std.proofs.Common.{arith, refl}
-use Rattle.squeue_streams.proofs.Items.{stream_same, taken_none}
+use Rattle.squeue_streams.proofs.Items.{stream_same}
 use Rattle.placed_parts.specs.Placing.{limits_of, origin_of}
 use Rattle.stream_stays.proofs.Knowing.{life_moved, may_come, stays_opened}
 use Rattle.stream_stays.proofs.passing.open.Goals as goal
@@ -8,7 +8,7 @@ pub put_into-pass-requires-clause-may : goal.put_into-pass-requires-clause-may
 put_into-pass-requires-clause-may g c = may_come limits_of c.args.sq.now c.args.pass c.args.life.now c.args.vacant.stream c.args.vacant.leaves c.requires.asks c.requires.life c.requires.away
 
 pub put_into-pass-requires-clause-new : goal.put_into-pass-requires-clause-new
-put_into-pass-requires-clause-new g c = (refl, taken_none c.renewed.result c.renewed.ensures.feeds)
+put_into-pass-requires-clause-new g c = (refl, c.renewed.ensures.stands)
 
 pub put_into-pass-requires-clause-part : goal.put_into-pass-requires-clause-part
 put_into-pass-requires-clause-part g c =

@@ -3,7 +3,7 @@ use Rattle.placed_parts.specs.Placing.{origin_of}
 use Rattle.placed_parts.specs.PlaceLaws.{places_in_range}
 use Rattle.squeue_streams.specs.Taking.{HasTakenMore, IsStreamOf, steps_of}
 use Rattle.stream_stays.proofs.Rings.{its_pair}
-use Rattle.stream_stays.proofs.Settled.{away_now, had_still, stands_again}
+use Rattle.stream_stays.proofs.Settled.{away_now, stands_again}
 use Rattle.stream_stays.proofs.settling.settle_part.Goals as goal
 
 pub take_out-part-requires-clause-range : goal.take_out-part-requires-clause-range
@@ -40,7 +40,7 @@ returns-clause-keeps g c =
     record {
       stands =
           stands_again c.args.resident.now c.take_out-part.new.self c.put_in.new.self c.args.c part all (λ p a b x y. x.feeds ∙ sym y.feeds) c.requires.here c.take_out-part.ensures.stands c.take_out-part.ensures.part
-          (λ had was. (was.0, had_still part all had taken.feeds taken.more was.1)) c.put_in.ensures.stands;
+          (λ had was. (was.0, taken.stands had was.1)) c.put_in.ensures.stands;
       limits = c.put_in.ensures.limits ∙ c.take_out-part.ensures.limits;
       size = c.put_in.ensures.size ∙ c.take_out-part.ensures.size;
       origin = c.put_in.ensures.origin ∙ c.take_out-part.ensures.origin;
