@@ -47,7 +47,7 @@ impl Buffer {
     }
 
     /// The store, for other bytes.
-    pub fn into_store(self) -> Vec<u8> {
+    pub(crate) fn into_store(self) -> Vec<u8> {
         self.store
     }
 

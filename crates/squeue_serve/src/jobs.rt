@@ -94,8 +94,8 @@ pub fn discard<T: Drop>(jobs: Vec<Job<T>>)
 ///
 /// ```
 /// lend(&mut squeues, &mut jobs, 0, count, squeue, passes);
-/// run(rt, &squeues.all[0], alloc, pace, reader, stint, &mut jobs);
-/// let Some((resident, _ended, _trace)) = end_last(&mut squeues, &mut jobs, 0, count) else {
+/// run_rings(rt, &squeues.all[0], alloc, pool, watcher, &mut jobs);
+/// let Some((_parts, end, _trace)) = end_last(&mut squeues, &mut jobs, 0, count) else {
 ///     unreachable!()
 /// };
 /// squeues.destroy_empty();
