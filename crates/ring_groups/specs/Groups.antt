@@ -19,6 +19,10 @@ module _ {B A Z : Type 0} where
   abbrev pub MayServe : Group B A Z → Type 0
   MayServe g = (1 ≤ length (before_in g)) × (length (before_in g) ≤ 63)
 
+  -- it has as many as each would get, or one more
+  abbrev pub IsEven : ℕ → Group B A Z → Type 0
+  IsEven each g = (each ≤ length (before_in g)) × (length (before_in g) ≤ each + 1)
+
   abbrev pub AreGroups : List B → List (Group B A Z) → Type 0
   AreGroups all groups = all_in groups ≡ all
 

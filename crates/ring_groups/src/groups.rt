@@ -1,7 +1,7 @@
 //! What is dealt to groups, each of which one squeue serves, and what is left of all groups, by number.
 
-ghost use Rattle.std.specs.Prelude.{◌≡◌, ◌≤◌, ◌+◌, ◌++◌, [], All, IfOk, length, min, reverse, vec_capacity};
-ghost use Rattle.ring_groups.specs.Groups.{AreGroups, HaveEnded, MayServe, many_in};
+ghost use Rattle.std.specs.Prelude.{◌≡◌, ◌≤◌, ◌+◌, ◌-◌, ◌/◌, ◌++◌, [], All, IfOk, length, min, reverse, vec_capacity};
+ghost use Rattle.ring_groups.specs.Groups.{AreGroups, HaveEnded, IsEven, MayServe, many_in};
 
 use std::alloc::{AllocError, Global};
 
@@ -23,6 +23,7 @@ pub fn deal<B: Drop, A: Drop, Z: Drop>(
     requires { length all.items ≤ 63 }
     ensures groups { IfOk result (λ v. AreGroups all.items v.items) }
     ensures may { IfOk result (λ v. All MayServe v.items) }
+    ensures even { 1 ≤ squeues → IfOk result (λ v. All (IsEven (length all.items / min squeues (length all.items))) v.items) }
     ensures many { 1 ≤ squeues → IfOk result (λ v. length v.items ≡ min squeues (length all.items)) }
 {
     let mut all = all;
@@ -45,6 +46,7 @@ fn share(count: usize, groups: usize) -> usize
     ensures leaves { 1 ≤ groups → groups ≤ count → result + groups ≤ count + 1 }
     ensures few { count ≤ groups → result ≡ 1 }
     ensures last { groups ≤ 1 → result ≡ count }
+    ensures value { 1 ≤ groups → result ≡ (count - 1) / groups + 1 }
 {
     if groups <= 1 {
         count

@@ -1,4 +1,5 @@
-use Rattle.std.proofs.Common.{arith}
+use Rattle.std.proofs.Common.{◌≡◌, ◌-◌, ◌/◌, ap, arith, refl}
+use Rattle.std.proofs.Math.Nat.{div-one}
 use Rattle.ring_groups.proofs.Shares.{share_fits, share_leaves, share_of_few}
 use Rattle.ring_groups.proofs.groups.share.Goals as goal
 
@@ -31,6 +32,14 @@ returns-else-groups-le1-clause-leaves c few fit = share_leaves c.args.count c.ar
 
 pub returns-else-groups-le1-clause-few : goal.returns-else-groups-le1-clause-few
 returns-else-groups-le1-clause-few c few = share_of_few c.args.count c.args.groups c.requires few
+
+pub returns-then-groups-le1-clause-value : goal.returns-then-groups-le1-clause-value
+returns-then-groups-le1-clause-value c few =
+    let one : c.args.groups ≡ 1 = omega (arith, few, c.if-groups-le1.true) in
+    omega (arith, c.requires, div-one (c.args.count - 1), ap (λ n. (c.args.count - 1) / n) one)
+
+pub returns-else-groups-le1-clause-value : goal.returns-else-groups-le1-clause-value
+returns-else-groups-le1-clause-value c few = refl
 
 pub returns-else-groups-le1-clause-last : goal.returns-else-groups-le1-clause-last
 returns-else-groups-le1-clause-last c few = absurd (omega (arith, c.if-groups-le1.false, few))
