@@ -1,5 +1,5 @@
 -- A segment that meets its connection: the time and the segment in one call, and what was noted before both.
-use Rattle.std.proofs.Common.{◌≡◌, ℕ, ◌<◌, Bool, true, false, cond, List, [], ◌∷◌, ◌++◌, length, Option, None, Some, Result, Ok, Err, OnErr, OnOk, refl, sym, ap, subst, ◌∙◌, true≢false, append_assoc}
+use Rattle.std.proofs.Common.{◌≡◌, ℕ, ◌+◌, ◌<◌, ◌≤◌, Bool, true, false, cond, List, [], ◌∷◌, ◌++◌, length, Option, None, Some, Result, Ok, Err, OnErr, OnOk, refl, sym, ap, subst, ◌∙◌, true≢false, append_assoc, arith}
 use Rattle.std.specs.Option.{option_map_or}
 use Rattle.std_collections.proofs.HashLookup.{set_value_at_twice}
 use Rattle.indexmap.specs.IndexMap.{set_value_at}
@@ -10,8 +10,8 @@ use Rattle.sq_base.specs.declared.kinds.Tuple.{Tuple}
 use Rattle.live_server.specs.Acts.{Meeting, emptied, is_over, judged, meets, reached, receives, sent_by}
 use Rattle.live_server.specs.Counting.{counting_judged}
 use Rattle.live_server.specs.Initial.{number_for}
-use Rattle.live_server.specs.Isolation.{KeepsStart, LosesOne}
-use Rattle.live_server.specs.Serving.{Outcome, ServerOf, arrives, becomes, comes, fits, gives_way, goes_on, has_place, heeds, holding, is_waiting, judging, makes_place, measures_of, on_segment, opens, overfull, sends_nothing, served, time_to, without_text, yielding, yields, yields_at}
+use Rattle.live_server.specs.Isolation.{KeepsRest, LosesOne}
+use Rattle.live_server.specs.Serving.{Outcome, ServerOf, arrives, becomes, comes, fits, gives_way, goes_on, has_place, heeds, holding, is_waiting, judging, measures_of, on_segment, opens, overfull, sends_nothing, served, time_to, without_text, yielding, yields, yields_at}
 use Rattle.live_server.specs.Table.{Conns, conn_at, place_of, reached_until, replaced, settled, tuple_eq, without, IsNew}
 use Rattle.live_server.specs.Told.{Told, told_arriving, told_coming, told_its_own, told_opening, told_segment}
 use Rattle.live_server.specs.Told.Told.{hears}
@@ -342,38 +342,53 @@ module _ (now : ℕ) (s : Seg) (text : List ℕ) (sv before : ServerOf) where
       (full_in_time now (tuple_of s) text sv (place_of (tuple_of s) sv.conns) refl)
       ∙ sym (segment_told_by false e)
 
--- ---- what a server was started with stays where some give way
-start_on : (a b c : ServerOf) → KeepsStart a b → KeepsStart b c → KeepsStart a c
-start_on a b c x y = (y.0 ∙ x.0, y.1 ∙ x.1)
+-- ---- what stays where memory was missing
+rest_on : (n more most : ℕ) (before mid after : ServerOf) → n + more ≤ most → KeepsRest n before mid → KeepsRest more mid after → KeepsRest most before after
+rest_on n more most before mid after sum one other = (
+  other.0 ∙ ap (λ (v : ServerOf). record v {
+    conns = after.conns;
+    waiting = after.waiting;
+    held = after.held;
+    counts = record v.counts { refused = after.counts.refused; gave_way = after.counts.gave_way; over_full = after.counts.over_full };
+  }) one.0,
+  omega (arith, one.1, other.1),
+  omega (arith, sum, one.2, other.2),
+)
 
-yield_at_start : (n i : ℕ) (sv : ServerOf) (b : Bool) → is_waiting n (conn_at i sv.conns) ≡ b → KeepsStart sv (yields_at n i sv)
+-- the first step can't fail
+pub rest_behind : {X E : Type 0} (r : Result X E) (n more most : ℕ) (before mid after : ServerOf) → n + more ≤ most → KeepsRest n before mid → OnErr r (KeepsRest more mid after) → OnErr r (KeepsRest most before after)
+rest_behind (Ok v) n more most before mid after sum one other = tt
+rest_behind (Err e) n more most before mid after sum one other = rest_on n more most before mid after sum one other
+
+pub all_rest : (sv : ServerOf) (k : ℕ) → KeepsRest k sv sv
+all_rest sv k = (refl, omega arith, omega arith)
+
+pub same_rest : {X E : Type 0} (r : Result X E) (k : ℕ) (sv after : ServerOf) → OnErr r (after ≡ sv) → OnErr r (KeepsRest k sv after)
+same_rest (Ok v) k sv after is = tt
+same_rest (Err e) k sv after is = subst (KeepsRest k sv) (sym is) (all_rest sv k)
+
+left_rest : (i : ℕ) (sv : ServerOf) (b : Bool) → KeepsRest 0 sv (cond b (gives_way i sv) sv)
+left_rest i sv true = (refl, omega arith, omega arith)
+left_rest i sv false = all_rest sv 0
+
+yield_rest : (w : Tuple × ℕ) (sv : ServerOf) (r : Option ℕ) → KeepsRest 0 sv (option_map_or (λ i. yields_at w.1 i sv) r sv)
 unfolding yields_at
-yield_at_start n i sv true e = (ap (λ v. (cond v (gives_way i sv) sv).setting) e, ap (λ v. (cond v (gives_way i sv) sv).secret) e)
-yield_at_start n i sv false e = (ap (λ v. (cond v (gives_way i sv) sv).setting) e, ap (λ v. (cond v (gives_way i sv) sv).secret) e)
+yield_rest w sv None = all_rest sv 0
+yield_rest w sv (Some i) = left_rest i sv (is_waiting w.1 (conn_at i sv.conns))
 
-yield_start : (w : Tuple × ℕ) (sv : ServerOf) (r : Option ℕ) → place_of w.0 sv.conns ≡ r → KeepsStart sv (yields w sv)
+chosen_rest : (sv : ServerOf) (b : Bool) (x : ServerOf) → KeepsRest 0 sv x → KeepsRest 0 sv (cond b sv x)
+chosen_rest sv true x h = all_rest sv 0
+chosen_rest sv false x h = h
+
+pub yielding_rest : (ts : List (Tuple × ℕ)) (sv : ServerOf) → KeepsRest 0 sv (yielding ts sv)
 unfolding yields
-yield_start w sv None at = (ap (λ o. (option_map_or (λ i. yields_at w.1 i sv) o sv).setting) at, ap (λ o. (option_map_or (λ i. yields_at w.1 i sv) o sv).secret) at)
-yield_start w sv (Some i) at =
-    let rest = yield_at_start w.1 i sv (is_waiting w.1 (conn_at i sv.conns)) refl in
-    (ap (λ o. (option_map_or (λ j. yields_at w.1 j sv) o sv).setting) at ∙ rest.0, ap (λ o. (option_map_or (λ j. yields_at w.1 j sv) o sv).secret) at ∙ rest.1)
-
-chosen_start : (sv : ServerOf) (b : Bool) (x : ServerOf) → KeepsStart sv x → KeepsStart sv (cond b sv x)
-chosen_start sv true x h = (refl, refl)
-chosen_start sv false x h = h
-
-pub yielding_start : (ts : List (Tuple × ℕ)) (sv : ServerOf) → KeepsStart sv (yielding ts sv)
-yielding_start [] sv = (refl, refl)
-yielding_start (w ∷ ws) sv =
+yielding_rest [] sv = all_rest sv 0
+yielding_rest (w ∷ ws) sv =
     let here : ServerOf = record sv { waiting = ws } in
     let next : ServerOf = yields w here in
-    let one = yield_start w here (place_of w.0 sv.conns) refl in
-    chosen_start sv (has_place sv) (yielding ws next) (start_on sv next (yielding ws next) one (yielding_start ws next))
-
-pub start_behind : (sv b c : ServerOf) → b ≡ makes_place sv → KeepsStart b c → KeepsStart sv c
-start_behind sv b c is keeps =
-    let first = yielding_start sv.waiting sv in
-    (keeps.0 ∙ ap (λ (x : ServerOf). x.setting) is ∙ first.0, keeps.1 ∙ ap (λ (x : ServerOf). x.secret) is ∙ first.1)
+    let first : KeepsRest 0 sv here = (refl, omega arith, omega arith) in
+    let one : KeepsRest 0 sv next = rest_on 0 0 0 sv here next (omega arith) first (yield_rest w here (place_of w.0 sv.conns)) in
+    chosen_rest sv (has_place sv) (yielding ws next) (rest_on 0 0 0 sv next (yielding ws next) (omega arith) one (yielding_rest ws next))
 
 -- ---- want of memory at a tick, in a map
 pub loses_one : {X E : Type 0} (r : Result X E) (now : ℕ) (sv after : ServerOf)

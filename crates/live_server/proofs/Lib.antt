@@ -19,6 +19,7 @@ pub mod LossLemmas
 pub mod ArriveLemmas
 pub mod FrameLemmas
 pub mod PieceLemmas
+pub mod AnsweredLemmas
 pub mod ToldLemmas
 pub mod PromiseLemmas
 pub mod FlightLemmas

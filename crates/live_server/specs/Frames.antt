@@ -71,6 +71,14 @@ frame_of d = big_bytes 8 (length d.bytes) ++ big_bytes 8 d.at ++ d.bytes
 abbrev pub answers : List ℕ → ServerOf → List ℕ
 answers input sv = flat_map frame_of (serves_frames (frames_in input) sv).sent
 
+-- what was there stays, and behind it went frames
+abbrev pub GrowsByFrames : List ℕ → List ℕ → Type 0
+GrowsByFrames was is = (sent : List Datagram) × (is ≡ was ++ flat_map frame_of sent)
+
+-- what is sent for so many of the first frames
+abbrev pub HasAnswered : List ℕ → List ℕ → List FrameOf → ServerOf → Type 0
+HasAnswered was is frames sv = (n : ℕ) × (is ≡ was ++ flat_map frame_of (serves_frames (take n frames) sv).sent)
+
 -- an input in pieces is served as one: the frames of what is there and of more are its frames, and then those of what was left and more
 abbrev pub PiecesJoin : Type 0
 PiecesJoin =

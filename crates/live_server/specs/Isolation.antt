@@ -1,5 +1,5 @@
 -- What holds of every table, and what a segment does to others.
-use Rattle.std.specs.Prelude.{◌≡◌, ℕ, ◌≤◌, ◌⊎◌, ◌||◌, Bool, true, false, List, length, All, Contains, Option, None, Some, IfSome, option_map, if◌then◌else◌}
+use Rattle.std.specs.Prelude.{◌≡◌, ℕ, ◌+◌, ◌≤◌, ◌⊎◌, ◌||◌, Bool, true, false, List, length, All, Contains, Option, None, Some, IfSome, option_map, if◌then◌else◌}
 use Rattle.std.specs.List.{IsDistinct}
 use Rattle.std.specs.Map.{keys_of, lookup}
 use Rattle.std.specs.Option.{option_map_or}
@@ -96,9 +96,15 @@ CostsOf body before after =
     ((s : Seg) × (packet_in RawIp body true ≡ Segment s) × Costs s before after)
     ⊎ (((x : TooLong) × (too_long_in body ≡ Some x) × Loses x.ends before after) ⊎ (after ≡ before))
 
--- and what the server was started with stays
-abbrev pub KeepsStart : ServerOf → ServerOf → Type 0
-KeepsStart before after = (after.setting ≡ before.setting) × (after.secret ≡ before.secret)
+-- and all else stays, but who may have to give way, three counts, and what is held, to which no more comes than so much text
+abbrev pub KeepsRest : ℕ → ServerOf → ServerOf → Type 0
+KeepsRest most before after =
+    (after ≡ record before {
+      conns = after.conns;
+      waiting = after.waiting;
+      held = after.held;
+      counts = record before.counts { refused = after.counts.refused; gave_way = after.counts.gave_way; over_full = after.counts.over_full };
+    }) × (before.held ≤ after.held) × (after.held ≤ before.held + most)
 
 -- and what the time does: one connection is gone, and each other one is as it was, or as the time leaves it
 abbrev pub LosesOne : ℕ → ServerOf → ServerOf → Type 0

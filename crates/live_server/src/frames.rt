@@ -1,8 +1,9 @@
 //! A run over frames: each is a datagram with its time, or the time alone.
 
-ghost use Rattle.std.specs.Prelude.{◌≡◌, ◌++◌, ◌+◌, ◌≤◌, false, true, length, IfOk, OnOk};
+ghost use Rattle.std.specs.Prelude.{◌≡◌, ◌++◌, ◌+◌, ◌≤◌, false, true, length, IfOk, OnErr, OnOk};
+ghost use Rattle.std.specs.Io.{StartsWith};
 ghost use Rattle.std.specs.List.{flat_map};
-ghost use Rattle.live_server.specs.Frames.{answers, body_size, frame_at, frame_of, frames_in, is_broken, is_end, on_frame, rest_of, serves_frames, time_of};
+ghost use Rattle.live_server.specs.Frames.{answers, body_size, frame_at, frame_of, frames_in, is_broken, is_end, on_frame, rest_of, serves_frames, time_of, GrowsByFrames, HasAnswered};
 ghost use Rattle.live_server.specs.Limits.{frame_head, most_body};
 ghost use Rattle.live_server.specs.Serving.{server_of};
 ghost use Rattle.live_server.specs.Told.{told_frame, told_frames};
@@ -23,7 +24,8 @@ const MOST_BODY: u64 = 65_535;
 pub const FRAME_HEAD: usize = 16;
 
 /// Serves the whole frames at the front of some bytes. What is sent goes as frames behind the bytes that are there. The answer
-/// is what is left: nothing, less than a whole frame, or one that is broken. After NoMemory nothing more is promised.
+/// is what is left: nothing, less than a whole frame, or one that is broken. An error says that memory was missing: then what is sent
+/// for a front of the frames went.
 pub fn serve_frames<'a>(
     server: &mut Server,
     alloc: Global,
@@ -32,6 +34,7 @@ pub fn serve_frames<'a>(
 ) -> Result<&'a [u8], AllocError>
     ensures server { OnOk result (server.new ≡ (serves_frames (frames_in bytes.now) server.old).server) }
     ensures sent { OnOk result (out.new.items ≡ out.old.items ++ answers bytes.now server.old) }
+    ensures wrote { OnErr result (HasAnswered out.old.items out.new.items (frames_in bytes.now) server.old) }
     ensures rest { IfOk result (λ rest. rest.now ≡ rest_of bytes.now) }
     ensures ended { IfOk result (λ rest. is_end rest.now ≡ true) }
 {
@@ -40,7 +43,7 @@ pub fn serve_frames<'a>(
 }
 
 /// The same by rules over any table. Where memory is missing at a frame, and `goes_on` says so, that is noted in `lost`, and the next
-/// frame is served.
+/// frame is served. Whole frames go out, whatever happens.
 pub fn serve_by_rules<'a, T: ConnTable>(
     rules: &mut Rules<T>,
     alloc: Global,
@@ -56,6 +59,9 @@ pub fn serve_by_rules<'a, T: ConnTable>(
     ensures server { OnOk result (lost.new ≡ false
         → server_of T.conns rules.new ≡ (serves_frames (frames_in bytes.now) (server_of T.conns rules.old)).server) }
     ensures sent { OnOk result (lost.new ≡ false → out.new.items ≡ out.old.items ++ answers bytes.now (server_of T.conns rules.old)) }
+    ensures framed { GrowsByFrames out.old.items out.new.items }
+    ensures wrote { OnErr result (lost.new ≡ false → HasAnswered out.old.items out.new.items (frames_in bytes.now) (server_of T.conns rules.old)) }
+    ensures gave_up { OnErr result (goes_on ≡ false) }
     ensures told { OnOk result (lost.new ≡ false
         → T.tells rules.old.table (told_frames (frames_in bytes.now) (server_of T.conns rules.old)) rules.new.table) }
     ensures rest { IfOk result (λ rest. rest.now ≡ rest_of bytes.now) }
@@ -111,7 +117,7 @@ fn frame_size(rest: &[u8]) -> usize
     FRAME_HEAD + body_size(rest)
 }
 
-/// Serves the frame that begins here. Where memory is missing, and all goes on, nothing is sent for it.
+/// Serves the frame that begins here. Where memory is missing, nothing is sent for it.
 fn serve_next<T: ConnTable>(
     rules: &mut Rules<T>,
     alloc: Global,
@@ -128,23 +134,26 @@ fn serve_next<T: ConnTable>(
     ensures server { OnOk result (lost.new ≡ false → server_of T.conns rules.new ≡ (on_frame (frame_at rest.now) (server_of T.conns rules.old)).server) }
     ensures sent { OnOk result (lost.new ≡ false
         → out.new.items ≡ out.old.items ++ flat_map frame_of (on_frame (frame_at rest.now) (server_of T.conns rules.old)).sent) }
+    ensures framed { GrowsByFrames out.old.items out.new.items }
+    ensures none { OnErr result (out.new.items ≡ out.old.items) }
+    ensures gave_up { OnErr result (goes_on ≡ false) }
     ensures told { OnOk result (lost.new ≡ false → T.tells rules.old.table (told_frame (frame_at rest.now) (server_of T.conns rules.old)) rules.new.table) }
 {
     let whole = out.len();
     match serve_front(rules, alloc, rest, out) {
         Ok(()) => Ok(()),
         Err(error) => {
+            out.truncate(whole);
             if !goes_on {
                 return Err(error);
             }
-            out.truncate(whole);
             *lost = true;
             Ok(())
         }
     }
 }
 
-/// Serves the frame that begins here, and writes what is sent for it.
+/// Serves the frame that begins here, and writes what is sent for it. What was there stays, and after an error more may be behind it.
 fn serve_front<T: ConnTable>(
     rules: &mut Rules<T>,
     alloc: Global,
@@ -156,6 +165,7 @@ fn serve_front<T: ConnTable>(
     ensures good { T.good rules.new.table }
     ensures server { OnOk result (server_of T.conns rules.new ≡ (on_frame (frame_at rest.now) (server_of T.conns rules.old)).server) }
     ensures sent { OnOk result (out.new.items ≡ out.old.items ++ flat_map frame_of (on_frame (frame_at rest.now) (server_of T.conns rules.old)).sent) }
+    ensures stays { StartsWith out.new.items out.old.items }
     ensures told { OnOk result (T.tells rules.old.table (told_frame (frame_at rest.now) (server_of T.conns rules.old)) rules.new.table) }
 {
     let (_, behind) = rest.split_at(FRAME_HEAD);
@@ -191,7 +201,8 @@ fn serve_frame<T: ConnTable>(
 
 /// A frame for each datagram.
 fn push_frames(sent: &[Datagram], out: &mut Vec<u8>) -> Result<(), AllocError>
-    ensures { OnOk result (out.new.items ≡ out.old.items ++ flat_map frame_of sent.now) }
+    ensures sent { OnOk result (out.new.items ≡ out.old.items ++ flat_map frame_of sent.now) }
+    ensures stays { StartsWith out.new.items out.old.items }
 {
     for datagram in sent {
         push_frame(datagram, out)?;
@@ -200,7 +211,8 @@ fn push_frames(sent: &[Datagram], out: &mut Vec<u8>) -> Result<(), AllocError>
 }
 
 fn push_frame(datagram: &Datagram, out: &mut Vec<u8>) -> Result<(), AllocError>
-    ensures { OnOk result (out.new.items ≡ out.old.items ++ frame_of datagram.now) }
+    ensures sent { OnOk result (out.new.items ≡ out.old.items ++ frame_of datagram.now) }
+    ensures stays { StartsWith out.new.items out.old.items }
 {
     let bytes = datagram.bytes.as_slice();
     out.extend_from_slice(&(bytes.len() as u64).to_be_bytes())?;

@@ -8,7 +8,7 @@ ghost use Rattle.sq_base.specs.declared.kinds.Tuple.{Tuple};
 ghost use Rattle.tcb_machine.specs.Limits.{last_time};
 ghost use Rattle.live_server.specs.Initial.{number_for};
 ghost use Rattle.live_server.specs.Leaving.{without_shed};
-ghost use Rattle.live_server.specs.Isolation.{Costs, CostsOf, KeepsStart, Loses};
+ghost use Rattle.live_server.specs.Isolation.{Costs, CostsOf, KeepsRest, Loses};
 ghost use Rattle.icmp_codec.specs.EchoRequest.{ping_in};
 ghost use Rattle.live_server.specs.Serving.{addressed, admits, arrives, echoes, fits, has_place, is_echoed, is_tight, limited, makes_place};
 ghost use Rattle.live_server.specs.CountsText.{counts_text};
@@ -138,7 +138,7 @@ impl<T: ConnTable> Rules<T> {
         ensures wrote { OnErr result (HasSent out.old.items out.new.items (on_datagram now body.now (server_of T.conns self.old)).sent) }
         ensures told { OnOk result (T.tells self.old.table (told_datagram now body.now (server_of T.conns self.old)) self.new.table) }
         ensures lost { OnErr result (CostsOf body.now (server_of T.conns self.old) (server_of T.conns self.new)) }
-        ensures start { OnErr result (KeepsStart (server_of T.conns self.old) (server_of T.conns self.new)) }
+        ensures rest { OnErr result (KeepsRest (length body.now) (server_of T.conns self.old) (server_of T.conns self.new)) }
     {
         match decode(Link::RawIp, body, true) {
             Packet::Segment(seg) => self.addressed(alloc, now, &seg, text_of(&seg, body), out),
@@ -168,7 +168,7 @@ impl<T: ConnTable> Rules<T> {
         ensures wrote { OnErr result (HasSent out.old.items out.new.items (on_too_long too_long.now (server_of T.conns self.old)).sent) }
         ensures told { OnOk result (T.tells self.old.table (told_too_long too_long.now (server_of T.conns self.old)) self.new.table) }
         ensures lost { OnErr result (Loses too_long.now.ends (server_of T.conns self.old) (server_of T.conns self.new)) }
-        ensures start { OnErr result (KeepsStart (server_of T.conns self.old) (server_of T.conns self.new)) }
+        ensures rest { OnErr result (KeepsRest 0 (server_of T.conns self.old) (server_of T.conns self.new)) }
     {
         if is_to_us(&self.setting, too_long.src, too_long.dst) {
             if let Some(place) = self.table.find(&too_long.ends) {
@@ -196,7 +196,7 @@ impl<T: ConnTable> Rules<T> {
         ensures wrote { OnErr result (HasSent out.old.items out.new.items (shortens_at too_long.now place (server_of T.conns self.old)).sent) }
         ensures told { OnOk result (T.tells self.old.table (hears too_long.now.ends ∷ []) self.new.table) }
         ensures lost { OnErr result (Loses too_long.now.ends (server_of T.conns self.old) (server_of T.conns self.new)) }
-        ensures start { OnErr result (KeepsStart (server_of T.conns self.old) (server_of T.conns self.new)) }
+        ensures rest { OnErr result (KeepsRest 0 (server_of T.conns self.old) (server_of T.conns self.new)) }
     {
         let most = text_in_mtu(too_long.mtu);
         let met = self
@@ -455,7 +455,7 @@ impl<T: ConnTable> Rules<T> {
         ensures wrote { OnErr result (HasSent out.old.items out.new.items (addressed now seg.now text.now (server_of T.conns self.old)).sent) }
         ensures told { OnOk result (T.tells self.old.table (told_addressed now seg.now text.now (server_of T.conns self.old)) self.new.table) }
         ensures lost { OnErr result (Costs seg.now (server_of T.conns self.old) (server_of T.conns self.new)) }
-        ensures start { OnErr result (KeepsStart (server_of T.conns self.old) (server_of T.conns self.new)) }
+        ensures rest { OnErr result (KeepsRest (length text.now) (server_of T.conns self.old) (server_of T.conns self.new)) }
     {
         if !is_for_us(&self.setting, seg) {
             self.counts.astray = self.counts.astray.wrapping_add(1);
@@ -501,7 +501,7 @@ impl<T: ConnTable> Rules<T> {
         ensures wrote { OnErr result (HasSent out.old.items out.new.items (on_segment now seg.now text.now (server_of T.conns self.old)).sent) }
         ensures told { OnOk result (T.tells self.old.table (told_segment now seg.now text.now (server_of T.conns self.old)) self.new.table) }
         ensures lost { OnErr result (Loses (tuple_of seg.now) (server_of T.conns self.old) (server_of T.conns self.new)) }
-        ensures start { OnErr result (KeepsStart (server_of T.conns self.old) (server_of T.conns self.new)) }
+        ensures rest { OnErr result (KeepsRest (length text.now) (server_of T.conns self.old) (server_of T.conns self.new)) }
     {
         if self.fits(text) {
             self.held = self.held.saturating_add(text.len() as u64);
@@ -537,7 +537,7 @@ impl<T: ConnTable> Rules<T> {
         ensures wrote { OnErr result (HasSent out.old.items out.new.items (arrives now seg.now text.now (server_of T.conns self.old)).sent) }
         ensures told { OnOk result (T.tells self.old.table (told_arriving now seg.now text.now (server_of T.conns self.old)) self.new.table) }
         ensures lost { OnErr result (Loses (tuple_of seg.now) (server_of T.conns self.old) (server_of T.conns self.new)) }
-        ensures start { OnErr result (KeepsStart (server_of T.conns self.old) (server_of T.conns self.new)) }
+        ensures rest { OnErr result (KeepsRest 0 (server_of T.conns self.old) (server_of T.conns self.new)) }
     {
         match self.table.find(&tuple_of(seg)) {
             Some(place) => self.meet(alloc, now, seg, text, place, out),
@@ -564,7 +564,7 @@ impl<T: ConnTable> Rules<T> {
         ensures wrote { OnErr result (HasSent out.old.items out.new.items (arrives now seg.now text.now (server_of T.conns self.old)).sent) }
         ensures told { OnOk result (T.tells self.old.table (told_arriving now seg.now text.now (server_of T.conns self.old)) self.new.table) }
         ensures lost { OnErr result (Loses (tuple_of seg.now) (server_of T.conns self.old) (server_of T.conns self.new)) }
-        ensures start { OnErr result (KeepsStart (server_of T.conns self.old) (server_of T.conns self.new)) }
+        ensures rest { OnErr result (KeepsRest 0 (server_of T.conns self.old) (server_of T.conns self.new)) }
     {
         let tuple = tuple_of(seg);
         let iss = number_for(&self.secret, now, seg, &tuple);
@@ -599,7 +599,7 @@ impl<T: ConnTable> Rules<T> {
         ensures wrote { OnErr result (HasSent out.old.items out.new.items (opens now seg.now text.now (server_of T.conns self.old)).sent) }
         ensures told { OnOk result (T.tells self.old.table (told_opening now seg.now text.now (server_of T.conns self.old)) self.new.table) }
         ensures lost { OnErr result (Loses (tuple_of seg.now) (server_of T.conns self.old) (server_of T.conns self.new)) }
-        ensures start { OnErr result (KeepsStart (server_of T.conns self.old) (server_of T.conns self.new)) }
+        ensures rest { OnErr result (KeepsRest 0 (server_of T.conns self.old) (server_of T.conns self.new)) }
     {
         if self.draining {
             self.refuse(alloc, now, seg, out)
@@ -627,7 +627,7 @@ impl<T: ConnTable> Rules<T> {
         ensures wrote { OnErr result (HasSent out.old.items out.new.items (admits now seg.now text.now (server_of T.conns self.old)).sent) }
         ensures told { OnOk result (T.tells self.old.table (told_admitting now seg.now text.now (server_of T.conns self.old)) self.new.table) }
         ensures lost { OnErr result (Loses (tuple_of seg.now) (server_of T.conns self.old) (server_of T.conns self.new)) }
-        ensures start { OnErr result (KeepsStart (server_of T.conns self.old) (server_of T.conns self.new)) }
+        ensures rest { OnErr result (KeepsRest 0 (server_of T.conns self.old) (server_of T.conns self.new)) }
     {
         let tuple = tuple_of(seg);
         let iss = number_for(&self.secret, now, seg, &tuple);
@@ -658,7 +658,7 @@ impl<T: ConnTable> Rules<T> {
         ensures wrote { OnErr result (HasSent out.old.items out.new.items (takes_place tuple conn (server_of T.conns self.old)).sent) }
         ensures told { OnOk result (T.tells self.old.table (told_taking tuple (server_of T.conns self.old)) self.new.table) }
         ensures lost { OnErr result (Loses tuple (server_of T.conns self.old) (server_of T.conns self.new)) }
-        ensures start { OnErr result (KeepsStart (server_of T.conns self.old) (server_of T.conns self.new)) }
+        ensures rest { OnErr result (KeepsRest 0 (server_of T.conns self.old) (server_of T.conns self.new)) }
     {
         if !self.has_place() {
             self.turned = self.turned.and(tuple.client);

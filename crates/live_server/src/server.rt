@@ -2,7 +2,7 @@
 
 ghost use Rattle.std.specs.Prelude.{◌≡◌, ◌++◌, ◌<◌, ◌≤◌, ◌^◌, [], length, OnErr, OnOk, false};
 ghost use Rattle.tcb_machine.specs.Limits.{last_time};
-ghost use Rattle.live_server.specs.Isolation.{CostsOf, KeepsStart, LosesOne};
+ghost use Rattle.live_server.specs.Isolation.{CostsOf, KeepsRest, LosesOne};
 ghost use Rattle.live_server.specs.Serving.{on_datagram, on_time};
 ghost use Rattle.live_server.specs.Written.{HasSent};
 
@@ -94,7 +94,7 @@ impl Server {
         ensures sent { OnOk result (out.new.items ≡ out.old.items ++ (on_datagram now body.now self.old).sent) }
         ensures wrote { OnErr result (HasSent out.old.items out.new.items (on_datagram now body.now self.old).sent) }
         ensures lost { OnErr result (CostsOf body.now self.old self.new) }
-        ensures start { OnErr result (KeepsStart self.old self.new) }
+        ensures rest { OnErr result (KeepsRest (length body.now) self.old self.new) }
     {
         self.rules.datagram(alloc, now, body, out)
     }

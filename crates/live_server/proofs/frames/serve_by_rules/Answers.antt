@@ -2,9 +2,11 @@ use Rattle.std.proofs.Common.{rules, ◌≡◌, ◌∙◌, ◌++◌, ◌+◌, ap
 use Rattle.std.specs.List.{flat_map}
 use Rattle.live_server.specs.Frames.{body_size, frame_at, frame_of, is_end, serves_frames}
 use Rattle.live_server.specs.Serving.{ServerOf, server_of}
+use Rattle.live_server.proofs.AnsweredLemmas.{more_frames, passed_framed, passed_more, passed_none, passed_on_err}
 use Rattle.live_server.proofs.FrameLemmas.{front_served, front_told, frames_last, rest_last, rest_next}
 use Rattle.live_server.specs.Told.{told_frame, told_frames}
 use Rattle.live_server.proofs.ArriveLemmas.{not_yet}
+use Rattle.live_server.proofs.LossLemmas.{on_err}
 use Rattle.live_server.proofs.ToldLemmas.{front_heard}
 use Rattle.live_server.proofs.frames.serve_by_rules.Goals as goal
 
@@ -29,6 +31,10 @@ frames-preserved g c =
       sent = λ still. front_told xs c.split_at.result.1.now before after begins cut (c.in_ok-serve_next.ensures.server still) c.frames.out.items c.serve_next.new.out.items (c.in_ok-serve_next.ensures.sent still)
           ∙ c.frames.invariant.sent (not_yet c.frames.lost c.serve_next.new.lost c.serve_next.ensures.sticky still);
       rest = rest_next xs c.split_at.result.1.now begins cut ∙ c.frames.invariant.rest;
+      passed = passed_more c.args.out.now.items c.frames.out.items c.serve_next.new.out.items xs c.split_at.result.1.now c.args.bytes.now
+          (server_of g.T.ConnTable.conns c.args.rules.now) before after c.frames.lost c.serve_next.new.lost
+          (not_yet c.frames.lost c.serve_next.new.lost c.serve_next.ensures.sticky) c.frames.invariant.passed
+          begins cut c.in_ok-serve_next.ensures.server c.in_ok-serve_next.ensures.sent c.serve_next.ensures.framed;
     }
 
 pub returns-clause-server : goal.returns-clause-server
@@ -60,7 +66,31 @@ frames-init g c = record {
   server = λ still. refl;
   sent = λ still. refl;
   rest = refl;
+  passed = passed_none c.args.out.now.items c.args.bytes.now (server_of g.T.ConnTable.conns c.args.rules.now) c.args.lost.now;
 }
+
+pub returns-in_err-serve_next-clause-framed : goal.returns-in_err-serve_next-clause-framed
+returns-in_err-serve_next-clause-framed g c =
+    more_frames c.args.out.now.items c.frames.out.items c.serve_next.new.out.items
+    (passed_framed c.args.out.now.items c.frames.out.items c.serve_next.new.out.items c.frames.rest.now c.frames.rest.now c.args.bytes.now
+    (server_of g.T.ConnTable.conns c.args.rules.now) (server_of g.T.ConnTable.conns c.frames.rules) (server_of g.T.ConnTable.conns c.frames.rules) c.frames.lost c.frames.lost
+    (λ still. still) c.frames.invariant.passed)
+    c.serve_next.ensures.framed
+
+pub returns-in_err-serve_next-clause-wrote : goal.returns-in_err-serve_next-clause-wrote
+returns-in_err-serve_next-clause-wrote g c =
+    passed_on_err c.args.out.now.items c.frames.out.items c.serve_next.new.out.items c.frames.rest.now c.frames.rest.now c.args.bytes.now
+    (server_of g.T.ConnTable.conns c.args.rules.now) (server_of g.T.ConnTable.conns c.frames.rules) (server_of g.T.ConnTable.conns c.frames.rules) c.frames.lost c.serve_next.new.lost
+    (not_yet c.frames.lost c.serve_next.new.lost c.serve_next.ensures.sticky) c.frames.invariant.passed c.from_residual.result c.in_err-serve_next.ensures.none
+
+pub returns-in_err-serve_next-clause-gave_up : goal.returns-in_err-serve_next-clause-gave_up
+returns-in_err-serve_next-clause-gave_up g c = on_err c.from_residual.result _ c.in_err-serve_next.ensures.gave_up
+
+pub returns-clause-framed : goal.returns-clause-framed
+returns-clause-framed g c =
+    passed_framed c.args.out.now.items c.frames.out.items c.frames.out.items c.frames.rest.now c.frames.rest.now c.args.bytes.now
+    (server_of g.T.ConnTable.conns c.args.rules.now) (server_of g.T.ConnTable.conns c.frames.rules) (server_of g.T.ConnTable.conns c.frames.rules) c.frames.lost c.frames.lost
+    (λ still. still) c.frames.invariant.passed
 
 pub returns-clause-told : goal.returns-clause-told
 returns-clause-told g c = λ still.

@@ -2,6 +2,7 @@ use Rattle.std.proofs.Common.{◌≡◌, ◌++◌, List, length, true, false}
 use Rattle.live_server.specs.Frames.{answers, frames_in, rest_of, serves_frames}
 use Rattle.live_server.specs.Serving.{server_of}
 use Rattle.live_server.specs.Told.{Told, told_frames}
+use Rattle.live_server.proofs.AnsweredLemmas.{HasPassed}
 use Rattle.live_server.proofs.frames.serve_by_rules.Given as goal
 
 -- what is left leads where all led
@@ -18,6 +19,7 @@ invariant-frames g l = record {
       → (serves_frames (frames_in l.rest) (server_of g.T.ConnTable.conns l.rules)).server ≡ (serves_frames (frames_in l.bytes) (server_of g.T.ConnTable.conns l.fn.rules)).server;
   sent : l.lost ≡ false → l.out.items ++ answers l.rest (server_of g.T.ConnTable.conns l.rules) ≡ l.fn.out.items ++ answers l.bytes (server_of g.T.ConnTable.conns l.fn.rules);
   rest : rest_of l.rest ≡ rest_of l.bytes;
+  passed : HasPassed l.fn.out.items l.out.items l.rest l.bytes (server_of g.T.ConnTable.conns l.fn.rules) (server_of g.T.ConnTable.conns l.rules) l.lost;
 }
 
 abbrev pub decreases-frames : goal.decreases-frames

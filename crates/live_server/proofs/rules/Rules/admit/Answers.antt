@@ -1,11 +1,11 @@
-use Rattle.std.proofs.Common.{◌≡◌, ◌∙◌, [], ap, false, rules, subst, sym, true}
+use Rattle.std.proofs.Common.{◌≡◌, ◌∙◌, [], ap, arith, false, rules, subst, sym, true}
 use Rattle.segment_codec.specs.Refusal.{tuple_of}
 use Rattle.live_server.specs.Acts.{is_over}
-use Rattle.live_server.specs.Isolation.{KeepsStart, Loses}
+use Rattle.live_server.specs.Isolation.{KeepsRest, Loses}
 use Rattle.live_server.specs.Serving.{ServerOf, server_of}
 use Rattle.live_server.specs.Told.{told_admitting, told_taking}
 use Rattle.live_server.specs.declared.conn.Conn.{Conn}
-use Rattle.live_server.proofs.ArriveLemmas.{map_ok, on_ok, start_behind}
+use Rattle.live_server.proofs.ArriveLemmas.{map_ok, on_ok, rest_behind, yielding_rest}
 use Rattle.live_server.proofs.LawLemmas.{lost_behind}
 use Rattle.live_server.proofs.LossLemmas.{map_err}
 use Rattle.live_server.proofs.ToldLemmas.{new_one, admitting_told}
@@ -19,12 +19,12 @@ returns-clause-lost g c =
     map_err c.take_place.result _ (Loses (tuple_of c.args.seg.now) before after)
     (λ loss. lost_behind (tuple_of c.args.seg.now) before mid after c.make_place.ensures.place (subst (λ t. Loses t mid after) c.tuple_of-tuple.ensures loss)) c.take_place.ensures.lost
 
-pub returns-clause-start : goal.returns-clause-start
-returns-clause-start g c =
+pub returns-clause-rest : goal.returns-clause-rest
+returns-clause-rest g c =
     let before : ServerOf = server_of g.T.ConnTable.conns c.args.self.now in
     let mid : ServerOf = server_of g.T.ConnTable.conns c.make_place.new.self in
     let after : ServerOf = server_of g.T.ConnTable.conns c.take_place.new.self in
-    map_err c.take_place.result _ (KeepsStart before after) (start_behind before mid after c.make_place.ensures.place) c.take_place.ensures.start
+    rest_behind c.take_place.result 0 0 0 before mid after (omega arith) (subst (KeepsRest 0 before) (sym c.make_place.ensures.place) (yielding_rest before.waiting before)) c.take_place.ensures.rest
 
 pub returns-then-is_over-clause-told : goal.returns-then-is_over-clause-told
 returns-then-is_over-clause-told g c =

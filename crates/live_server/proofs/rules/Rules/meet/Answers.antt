@@ -1,14 +1,14 @@
-use Rattle.std.proofs.Common.{◌≡◌, ◌∷◌, [], ◌++◌, ◌∙◌, ap, refl, subst, sym}
+use Rattle.std.proofs.Common.{◌≡◌, ◌∷◌, [], ◌++◌, ◌∙◌, ap, arith, refl, subst, sym}
 use Rattle.segment_codec.specs.Refusal.{tuple_of}
 use Rattle.live_server.specs.Acts.{Meeting, meets}
 use Rattle.live_server.specs.Initial.{number_for}
-use Rattle.live_server.specs.Isolation.{Loses}
+use Rattle.live_server.specs.Isolation.{KeepsRest, Loses}
 use Rattle.live_server.specs.Serving.{ServerOf, arrives, server_of}
 use Rattle.live_server.specs.Table.{Conns, conn_at, replaced, IsNew}
 use Rattle.live_server.specs.Told.{told_arriving, told_opening}
 use Rattle.live_server.specs.Told.Told.{hears}
 use Rattle.live_server.specs.Written.{HasSent}
-use Rattle.live_server.proofs.ArriveLemmas.{gone_in_time, gone_partly, gone_sent, gone_server, gone_told, judged_sent, judged_server, judged_told, map_ok, met_partly}
+use Rattle.live_server.proofs.ArriveLemmas.{gone_in_time, gone_partly, gone_sent, gone_server, gone_told, judged_sent, judged_server, judged_told, map_ok, met_partly, rest_behind}
 use Rattle.live_server.proofs.LawLemmas.{lost_at, lost_in_time}
 use Rattle.live_server.proofs.LossLemmas.{map_err, on_err}
 use Rattle.live_server.proofs.rules.Rules.meet.Goals as goal
@@ -122,3 +122,10 @@ returns-in-Gone-clause-wrote g c =
     (gone_partly c.args.now c.args.seg.now c.args.text.now before c.args.place c.requires.place (sym c.in-Gone.is ∙ c.in_ok-met.ensures.met ∙ ap (λ (m : Meeting). m.met) same)
     (record before { conns = here }) (ap (λ (l : Conns). record before { conns = l }) (c.in_ok-met.ensures.table ∙ ap (λ (m : Meeting). replaced c.args.place m.conn before.conns) same)) new
     c.args.out.now.items c.meet.new.out.items c.open.new.out.items (c.in_ok-met.ensures.sent ∙ ap (λ (m : Meeting). c.args.out.now.items ++ m.sent) same)) c.open.ensures.wrote
+
+pub returns-in-Gone-clause-rest : goal.returns-in-Gone-clause-rest
+returns-in-Gone-clause-rest g c =
+    let before : ServerOf = server_of g.T.ConnTable.conns c.args.self.now in
+    let mid : ServerOf = record before { conns = g.T.ConnTable.conns c.meet.new.self } in
+    let first : KeepsRest 0 before mid = (refl, omega arith, omega arith) in
+    rest_behind c.open.result 0 0 0 before mid (server_of g.T.ConnTable.conns c.open.new.self) (omega arith) first c.open.ensures.rest

@@ -1,8 +1,9 @@
 use Rattle.std.proofs.Common.{◌≡◌, ◌++◌, ◌+◌, ◌-◌, ◌^◌, ◌∙◌, [], ap, arith, length, min, refl, sym, subst}
+use Rattle.live_server.specs.Isolation.{KeepsRest}
 use Rattle.live_server.specs.Serving.{ServerOf, arrives, on_segment, overfull, server_of}
 use Rattle.live_server.specs.Told.{told_arriving, told_segment}
 use Rattle.live_server.specs.Written.{HasSent}
-use Rattle.live_server.proofs.ArriveLemmas.{full_sent, full_server, full_told, held_sent, held_server, held_told, map_ok}
+use Rattle.live_server.proofs.ArriveLemmas.{full_sent, full_server, full_told, held_sent, held_server, held_told, map_ok, rest_behind}
 use Rattle.live_server.proofs.LossLemmas.{map_err}
 use Rattle.live_server.proofs.rules.Rules.segment.Goals as goal
 
@@ -76,3 +77,17 @@ returns-else-fits-clause-wrote g c =
     (subst (HasSent c.args.out.now.items c.arrive-else-fits.new.out.items)
     (ap (λ s. (arrives c.args.now s [] (overfull sv)).sent) c.without_text.ensures ∙ full_sent c.args.now c.args.seg.now text sv (overfull sv) (sym c.if-fits.ensures) refl))
     c.arrive-else-fits.ensures.wrote
+
+pub returns-then-fits-clause-rest : goal.returns-then-fits-clause-rest
+returns-then-fits-clause-rest g c =
+    let sv : ServerOf = server_of g.T.ConnTable.conns c.args.self.now in
+    let text = c.args.text.now in
+    let mid : ServerOf = record sv { held = c.saturating_add-self.result } in
+    let first : KeepsRest (length text) sv mid = (refl, omega (arith, c.saturating_add-self.ensures), omega (arith, c.saturating_add-self.ensures)) in
+    rest_behind c.arrive.result (length text) 0 (length text) sv mid (server_of g.T.ConnTable.conns c.arrive.new.self) (omega arith) first c.arrive.ensures.rest
+
+pub returns-else-fits-clause-rest : goal.returns-else-fits-clause-rest
+returns-else-fits-clause-rest g c =
+    let sv : ServerOf = server_of g.T.ConnTable.conns c.args.self.now in
+    let first : KeepsRest 0 sv (overfull sv) = (refl, omega arith, omega arith) in
+    rest_behind c.arrive-else-fits.result 0 0 (length c.args.text.now) sv (overfull sv) (server_of g.T.ConnTable.conns c.arrive-else-fits.new.self) (omega arith) first c.arrive-else-fits.ensures.rest
