@@ -1,12 +1,21 @@
 -- What was written is a front of the answers.
 use Rattle.std.proofs.Common.{◌≡◌, ℕ, ◌≤◌, true, List, [], ◌∷◌, ◌++◌, length, Option, refl, sym, ap, subst, ◌∙◌, append-nil, append_assoc, arith, length-append, length-drop}
-use Rattle.std.proofs.KnownBytes.{Appends-trans}
+use Rattle.std.proofs.KnownBytes.{Appends-nil, Appends-trans}
 use Rattle.std.specs.Io.KnownBytes.{Appends}
 use Rattle.std.specs.List.{flat_map}
+use Rattle.std.proofs.lemmas.Grind.{flat_map-append}
 use Rattle.live_server.specs.Frames.{FrameOf, answers, frame_of, frames_in, is_broken, rest_of, serves_frames, total_size}
 use Rattle.live_server.specs.Serving.{ServerOf}
 use Rattle.live_server.proofs.PieceLemmas.{broken_stays, piece_answered, piece_left, pieces_join_proof}
-use Rattle.live_run.specs.Fronts.{AppendsFront}
+use Rattle.live_run.specs.Fronts.{AppendsFront, AppendsFrames}
+
+-- frames behind frames
+pub no_frames_written : (was : Option (List ℕ)) → AppendsFrames was was
+no_frames_written was = ([], Appends-nil was)
+
+pub frames_written : (was mid is : Option (List ℕ)) → AppendsFrames was mid → AppendsFrames mid is → AppendsFrames was is
+frames_written was mid is first last =
+    (first.0 ++ last.0, subst (Appends was is) (sym (flat_map-append frame_of first.0 last.0)) (Appends-trans was mid is _ _ first.1 last.1))
 
 no_size : (fs : List FrameOf) → total_size fs ≡ 0 → fs ≡ []
 no_size [] none = refl

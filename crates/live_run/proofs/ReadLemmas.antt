@@ -1,5 +1,5 @@
 -- What is said of all that was read, and of a front of it.
-use Rattle.std.proofs.Common.{◌≡◌, ℕ, List, ◌++◌, take, Option, None, Some, IfSome, Result, Ok, Err, OnOk, sym, ap, subst, ◌∙◌, append-nil}
+use Rattle.std.proofs.Common.{◌≡◌, ◌≢◌, ℕ, List, ◌++◌, take, Option, None, Some, IfSome, Result, Ok, Err, OnOk, sym, ap, subst, ◌∙◌, append-nil}
 use Rattle.std.specs.Io.KnownBytes.{Consumes, IsAtEnd}
 
 -- what holds anyhow holds where all went well
@@ -10,6 +10,9 @@ on_ok (Err e) P p = tt
 pub map_ok : {X E : Type 0} (r : Result X E) (P Q : Type 0) → (P → Q) → OnOk r P → OnOk r Q
 map_ok (Ok x) P Q f h = f h
 map_ok (Err e) P Q f h = tt
+
+pub not_failed : {X E : Type 0} (x : X) (e : E) → Ok x ≢ Err e
+not_failed x e is = cc
 
 -- what was read is all that there was
 pub all_read : (first last : Option (List ℕ)) (there : List ℕ) (P : List ℕ → Type 0) → Consumes first last there → IsAtEnd last → P there → IfSome first P

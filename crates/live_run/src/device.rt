@@ -1,17 +1,18 @@
 //! Standard input and output as a TUN device: each read is a datagram, and each write is one.
 
-ghost use Rattle.std.specs.Prelude.{◌≡◌, ◌+◌, ◌-◌, ◌/◌, ◌<◌, ◌≤◌, ◌^◌, [], min, length, OnErr, OnOk};
+ghost use Rattle.std.specs.Prelude.{◌≡◌, ◌+◌, ◌-◌, ◌/◌, ◌<◌, ◌≤◌, ◌^◌, [], ◌∷◌, if◌then◌else◌, min, length, OnErr, OnOk};
 ghost use Rattle.std.specs.Duration.{as_nanos};
+ghost use Rattle.sq_base.specs.Ends.{end_of};
 ghost use Rattle.tcb_machine.specs.Limits.{last_time};
-ghost use Rattle.live_server.specs.Isolation.{KeepsStart};
 ghost use Rattle.live_server.specs.Written.{HasSent};
-ghost use Rattle.live_run.specs.Rounds.{round, ticked_by, told_after, AppendsEach, LosesAtRound};
+ghost use Rattle.live_run.specs.Rounds.{round, ticked_by, told_after, LosesAtRound, WritesEach};
 
 use crate::fault::Fault;
 use live_server::{Datagram, Server};
+use sq_base::{Sink, StdSink};
 use std::alloc::{AllocError, Global};
 use std::io;
-use std::io::{Read, Write};
+use std::io::Read;
 use std::time::{Duration, Instant, SystemTime};
 use tcb_machine::LAST_TIME;
 
@@ -26,17 +27,17 @@ const MOST_STEP: u64 = 100_000;
 
 /// Serves until nothing more can be read. Where memory is missing one connection is lost, and the others go on. The time is the
 /// system's at the start, and goes on by a clock that nobody sets. After a pause of the machine it goes on twice as fast, until it has caught
-/// up: so deadlines of the pause don't all fire at once.
-pub fn serve(rt: &HostRuntime, server: Server) -> Result<(), Fault> {
+/// up: so deadlines of the pause don't all fire at once. The answer is how many datagrams weren't written whole.
+pub fn serve(rt: &HostRuntime, server: Server) -> Result<u64, Fault> {
     let mut server = server;
     let mut reader = rt.reader();
-    let mut writer = io::writer(rt);
+    let mut device = StdSink::over(io::writer(rt));
     let mut body = room(rt.alloc())?;
     let mut sent = Vec::new(rt.alloc());
     let begun = since_1970(rt)?;
     let start = moment(Instant::now(rt))?;
     let (mut now, mut looked) = (begun, begun);
-    let mut ticked = 0u64;
+    let (mut ticked, mut lost) = (0u64, 0u64);
     for _ in 0..u64::MAX {
         let Ok(read) = reader.read(&mut body[..]) else {
             return Err(Fault::Reading);
@@ -56,9 +57,9 @@ pub fn serve(rt: &HostRuntime, server: Server) -> Result<(), Fault> {
             datagram,
             &mut sent,
         );
-        write_each(&mut writer, &sent);
+        lost = lost.saturating_add(write_each(&mut device, &sent) as u64);
     }
-    Ok(())
+    Ok(lost)
 }
 
 /// Room for a datagram.
@@ -122,7 +123,6 @@ fn round(
     ensures wrote { OnErr result (HasSent [] sent.new.items (round now ticked.old body.now server.old).sent) }
     ensures ticked { ticked.new ≡ ticked_by now ticked.old }
     ensures lost { OnErr result (LosesAtRound now ticked.old body.now server.old server.new) }
-    ensures start { OnErr result (KeepsStart server.old server.new) }
 {
     sent.clear();
     if now.saturating_sub(*ticked) >= TICK {
@@ -132,11 +132,29 @@ fn round(
     server.datagram(alloc, now, body, sent)
 }
 
-/// Writes each datagram, by one write each. One that the device refuses is lost, as on any wire.
-fn write_each<W: Write>(writer: &mut W, sent: &[Datagram])
-    ensures { AppendsEach (W.contents writer.old) (W.contents writer.new) sent.now }
+/// Writes each datagram, by one write each, and answers how many weren't written whole. One that the device refuses or cuts short is lost,
+/// as on any wire.
+fn write_each<K: Sink>(device: &mut K, sent: &[Datagram]) -> usize
+    ensures { WritesEach (end_of K.contents K.write_faults device.old device.new) sent.now result }
 {
+    let mut lost = 0;
     for datagram in sent {
-        let _ = writer.write(datagram.bytes.as_slice());
+        let whole = write_one(device, datagram);
+        if !whole {
+            lost += 1;
+        }
+    }
+    lost
+}
+
+/// Writes a datagram by one write, and answers whether it was written whole.
+fn write_one<K: Sink>(device: &mut K, datagram: &Datagram) -> bool
+    ensures written { WritesEach (end_of K.contents K.write_faults device.old device.new) (datagram.now ∷ []) (if result then 0 else 1) }
+    ensures never_falls { K.write_faults device.old ≤ K.write_faults device.new }
+{
+    let bytes = datagram.bytes.as_slice();
+    match device.write(bytes) {
+        Ok(written) => written == bytes.len(),
+        Err(_) => false,
     }
 }

@@ -7,7 +7,7 @@ ghost use Rattle.live_server.specs.Frames.{answers, frames_in, is_broken, rest_o
 ghost use Rattle.live_server.specs.Limits.{frame_head};
 ghost use Rattle.live_server.specs.Serving.{server_of};
 ghost use Rattle.live_server.specs.Told.{told_frames};
-ghost use Rattle.live_run.specs.Fronts.{AppendsFront};
+ghost use Rattle.live_run.specs.Fronts.{AppendsFront, AppendsFrames};
 
 use crate::fault::Fault;
 use live_server::{ConnTable, FRAME_HEAD, Rules, Server, is_broken, serve_by_rules};
@@ -32,6 +32,7 @@ pub fn serve_frames_of<S: Source, K: Sink>(
     ensures written { OnOk result (IfSome (S.rest source.old) (λ input. Appends (K.contents sink.old) (K.contents sink.new) (answers input server))) }
     ensures whole { OnOk result (IfSome (S.rest source.old) (λ input. rest_of input ≡ [])) }
     ensures front { IfSome (S.rest source.old) (λ input. AppendsFront (K.contents sink.old) (K.contents sink.new) (answers input server)) }
+    ensures framed { result ≢ Err Fault.Writing → AppendsFrames (K.contents sink.old) (K.contents sink.new) }
     ensures reading { result ≡ Err Fault.Reading → Rose (S.read_faults source.old) (S.read_faults source.new) }
     ensures writing { result ≡ Err Fault.Writing → Rose (K.write_faults sink.old) (K.write_faults sink.new) }
     ensures frames { result ≡ Err Fault.Frames → IfSome (S.rest source.old) (λ input. rest_of input ≢ []) }
@@ -47,7 +48,7 @@ pub fn serve_frames_of<S: Source, K: Sink>(
 }
 
 /// The same by rules over any table. Where memory is missing at a frame, and `goes_on` says so, that is noted in `lost`, and the next
-/// frame is served: then a connection, or some of what it sent, is missing.
+/// frame is served: then a connection, or some of what it sent, is missing. What is written is whole frames, unless a write fails.
 pub fn serve_stream<T: ConnTable, S: Source, K: Sink>(
     alloc: Global,
     rules: &mut Rules<T>,
@@ -67,6 +68,7 @@ pub fn serve_stream<T: ConnTable, S: Source, K: Sink>(
     ensures whole { OnOk result (IfSome (S.rest source.old) (λ input. rest_of input ≡ [])) }
     ensures front { lost.new ≡ false → IfSome (S.rest source.old)
         (λ input. AppendsFront (K.contents sink.old) (K.contents sink.new) (answers input (server_of T.conns rules.old))) }
+    ensures framed { result ≢ Err Fault.Writing → AppendsFrames (K.contents sink.old) (K.contents sink.new) }
     ensures reading { result ≡ Err Fault.Reading → Rose (S.read_faults source.old) (S.read_faults source.new) }
     ensures writing { result ≡ Err Fault.Writing → Rose (K.write_faults sink.old) (K.write_faults sink.new) }
     ensures frames { result ≡ Err Fault.Frames → IfSome (S.rest source.old) (λ input. rest_of input ≢ []) }
@@ -104,6 +106,7 @@ fn serve_pieces<T: ConnTable, S: Source, K: Sink>(
     ensures whole { OnOk result (IfSome (S.rest source.old) (λ input. rest_of input ≡ [])) }
     ensures front { lost.new ≡ false → IfSome (S.rest source.old)
         (λ input. AppendsFront (K.contents sink.old) (K.contents sink.new) (answers input (server_of T.conns rules.old))) }
+    ensures framed { result ≢ Err Fault.Writing → AppendsFrames (K.contents sink.old) (K.contents sink.new) }
     ensures reading { result ≡ Err Fault.Reading → Rose (S.read_faults source.old) (S.read_faults source.new) }
     ensures writing { result ≡ Err Fault.Writing → Rose (K.write_faults sink.old) (K.write_faults sink.new) }
     ensures frames { result ≡ Err Fault.Frames → IfSome (S.rest source.old) (λ input. rest_of input ≢ []) }
@@ -175,6 +178,7 @@ fn serve_piece<T: ConnTable, K: Sink>(
     ensures kept { OnOk result (K.write_faults sink.new ≡ K.write_faults sink.old) }
     ensures front { OnErr result (lost.new ≡ false → AppendsFront (K.contents sink.old) (K.contents sink.new)
         (answers (pending.old.items ++ piece.now) (server_of T.conns rules.old))) }
+    ensures framed { result ≢ Err Fault.Writing → AppendsFrames (K.contents sink.old) (K.contents sink.new) }
     ensures writing { result ≡ Err Fault.Writing → Rose (K.write_faults sink.old) (K.write_faults sink.new) }
     ensures frames { result ≡ Err Fault.Frames → (frame_head ≤ length (rest_of (pending.old.items ++ piece.now)))
         × (is_broken (rest_of (pending.old.items ++ piece.now)) ≡ true) }

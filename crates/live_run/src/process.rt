@@ -52,7 +52,16 @@ fn run(rt: &HostRuntime) -> Result<(), Fault> {
         }
         Medium::Device => {
             let secret = drawing::secret(rt)?;
-            device::serve(rt, Server::new(rt.alloc(), setting, secret))
+            let lost = device::serve(rt, Server::new(rt.alloc(), setting, secret))?;
+            tell_lost(rt, lost);
+            Ok(())
         }
+    }
+}
+
+/// Tells how many datagrams were lost, where some were.
+fn tell_lost(rt: &HostRuntime, lost: u64) {
+    if lost > 0 {
+        let _ = eprintln!(rt; "{lost} datagrams were not written whole");
     }
 }

@@ -1,22 +1,22 @@
 use Rattle.std.proofs.Common.{◌++◌, ◌∙◌, [], List, Vec, Global, ap, arith, subst}
-use Rattle.std.specs.Prelude.{OnErr}
-use Rattle.live_server.specs.Isolation.{KeepsStart}
-use Rattle.live_server.specs.Serving.{ServerOf, on_time}
+use Rattle.live_server.specs.Serving.{on_time}
 use Rattle.live_server.specs.Written.{HasSent}
 use Rattle.live_server.specs.declared.acting.Datagram.{Datagram}
 use Rattle.live_server.proofs.LossLemmas.{on_err}
-use Rattle.live_run.proofs.RoundLemmas.{behind_partly, datagram_partly, kept_behind, time_partly}
+use Rattle.live_run.proofs.RoundLemmas.{behind_partly, datagram_partly, lost_behind, lost_early, time_partly}
 use Rattle.live_run.proofs.device.round.Goals.{then-saturating_sub-ge-TICK+in_ok-tick, else-saturating_sub-ge-TICK}
 use Rattle.live_run.proofs.device.round.Goals as goal
 
-pub returns-clause-start : goal.returns-clause-start
-returns-clause-start c =
+pub returns-clause-lost : goal.returns-clause-lost
+returns-clause-lost c =
     let after = c.datagram.new.self in
-    let kept = c.datagram.ensures.start in
     elim c.if-saturating_sub-ge-TICK.branch [
       | then-saturating_sub-ge-TICK+in_ok-tick w ↦
-          kept_behind c.datagram.result c.args.now c.args.server.now c.if-saturating_sub-ge-TICK.server after (w.server-is ∙ w.in_ok-tick.ensures.server) kept
-      | else-saturating_sub-ge-TICK w ↦ subst (λ (m : ServerOf). OnErr c.datagram.result (KeepsStart m after)) w.server-is kept
+          lost_behind c.args.now c.args.ticked.now c.args.body.now c.args.server.now c.datagram.result (omega (arith, w.if-saturating_sub-ge-TICK.true, c.saturating_sub.ensures)) _ after
+          (w.server-is ∙ w.in_ok-tick.ensures.server) c.datagram.ensures.lost c.datagram.ensures.rest
+      | else-saturating_sub-ge-TICK w ↦
+          lost_early c.args.now c.args.ticked.now c.args.body.now c.args.server.now c.datagram.result (omega (arith, w.if-saturating_sub-ge-TICK.false, c.saturating_sub.ensures)) _ after
+          w.server-is c.datagram.ensures.lost c.datagram.ensures.rest
     ]
 
 pub returns-in_err-tick-clause-wrote : goal.returns-in_err-tick-clause-wrote

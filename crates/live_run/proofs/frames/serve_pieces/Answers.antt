@@ -6,8 +6,8 @@ use Rattle.live_server.specs.Serving.{server_of}
 use Rattle.live_server.proofs.ArriveLemmas.{not_yet}
 use Rattle.live_server.proofs.PieceLemmas.{piece_answered, piece_left, piece_served}
 use Rattle.live_server.proofs.ToldLemmas.{piece_heard}
-use Rattle.live_run.proofs.FrontLemmas.{broken_answered, broken_left, wrote_further, wrote_so_far}
-use Rattle.live_run.proofs.ReadLemmas.{all_read, front_read, map_ok, nothing_read, on_ok}
+use Rattle.live_run.proofs.FrontLemmas.{broken_answered, broken_left, frames_written, no_frames_written, wrote_further, wrote_so_far}
+use Rattle.live_run.proofs.ReadLemmas.{all_read, front_read, map_ok, not_failed, nothing_read, on_ok}
 use Rattle.live_run.specs.declared.fault.Fault.{Fault}
 use Rattle.live_run.proofs.frames.serve_pieces.Goals as goal
 
@@ -22,6 +22,7 @@ pieces-init g c = record {
   server = λ still. refl;
   written = λ still. Appends-nil _;
   told = λ still. g.met.T.ConnTable.tells_nothing c.args.rules.now.table;
+  framed = no_frames_written _;
   left = c.room_for_pieces-pending.ensures;
   read_well = refl;
   written_well = refl;
@@ -89,6 +90,7 @@ pieces-preserved g c =
           (piece_heard so_far.there got c.pieces.pending.items first (server_of g.T.ConnTable.conns c.pieces.rules) so_far.left (so_far.server (before still)))
           (g.met.T.ConnTable.tells_on c.args.rules.now.table c.pieces.rules.table c.serve_piece.new.rules.table _ _ (so_far.told (before still))
           (c.in_default-serve_piece.ensures.told still));
+      framed = frames_written _ _ _ so_far.framed (c.in_default-serve_piece.ensures.framed (not_failed _ _));
       left = c.in_default-serve_piece.ensures.left ∙ piece_left so_far.there got c.pieces.pending.items first (serves_frames (frames_in so_far.there) first).server so_far.left refl;
       read_well = c.in-Ok.ensures.kept ∙ so_far.read_well;
       written_well = c.in_default-serve_piece.ensures.kept ∙ so_far.written_well;
@@ -144,3 +146,6 @@ pub returns-in_default-clause-so_far : goal.returns-in_default-clause-so_far
 returns-in_default-clause-so_far g c = λ is still.
     let so_far = c.pieces.invariant in
     (so_far.there, Consumes-kept _ _ _ so_far.there so_far.read c.in_default.ensures.bytes, so_far.written still)
+
+pub returns-in-Err-clause-framed : goal.returns-in-Err-clause-framed
+returns-in-Err-clause-framed g c = λ well. frames_written _ _ _ c.pieces.invariant.framed (c.in-Err.ensures.framed well)
