@@ -1,5 +1,5 @@
 -- What the connections of a ring had at its squeue.
-use Rattle.std.proofs.Common.{◌≡◌, ℕ, Bool, false, Option, None, Some, Result, Ok, Err, List, [], ◌++◌, sym, subst, ◌∙◌, append-nil}
+use Rattle.std.proofs.Common.{◌≡◌, ℕ, ◌<◌, Bool, false, Option, None, Some, Result, Ok, Err, List, [], ◌++◌, sym, subst, ◌∙◌, append-nil}
 use Rattle.std.specs.Prelude.{IfSome, OnOk}
 use Rattle.turn_gate.specs.History.{Begins}
 use Rattle.perimeter_core.specs.History.{Element, Setting}
@@ -54,10 +54,11 @@ lived_more S p q told more same lived H grows =
 
 -- what is so of a ring's pass is so of the history at its squeue's end
 module _ {S K : Type 0} (rest : S → Option (List ℕ)) (reads : S → ℕ) (contents : K → Option (List ℕ)) (faults : K → ℕ) (setup : Layout) where
-  pub ended_in : (at : Setting) (end : Ending) (k : ℕ) (e : Ends S K) (d : EndedRing S K) → end.setting ≡ at → number d.pass.value ≡ k → Begins (seen d.pass.value) end.history
+  pub ended_in : (at : Setting) (end : Ending) (k : ℕ) (e : Ends S K) (d : EndedRing S K) → end.setting ≡ at → k < end.setting.rings → number d.pass.value ≡ k → Begins (seen d.pass.value) end.history
       → EndedAt rest reads contents faults at setup e d → EndedIn rest reads contents faults setup end k e d
-  ended_in at end k e d setting number_is grows h = record {
+  ended_in at end k e d setting ring number_is grows h = record {
     ended = h.ended;
+    ring = ring;
     lived = λ none kept. by (rest e.reader) (h.lived none kept);
   }
     where

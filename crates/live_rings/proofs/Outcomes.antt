@@ -4,6 +4,7 @@ use Rattle.live_run.specs.declared.fault.Fault.{Fault}
 use Rattle.live_run.specs.declared.fault.Fault.TheVariants as Fault'
 use Rattle.live_rings.specs.declared.ending.EndedRing.{EndedRing}
 use Rattle.live_rings.specs.declared.words.Layout.{Layout}
+use Rattle.live_run.proofs.ReadLemmas.{not_failed}
 use Rattle.live_rings.specs.Served.{HasEnded, HasServed, fault_of}
 
 -- a stream that failed so
@@ -18,6 +19,7 @@ module _ {S K : Type 0} (rest : S → Option (List ℕ)) (reads : S → ℕ) (co
         well = λ none kept. served.written kept;
         whole = λ none. served.whole;
         front = served.front;
+        framed = λ _. served.framed (not_failed x Fault'.Writing);
         stops = served.stops;
         reading = λ why. cc (sym is ∙ why);
         writing = λ why. cc (sym is ∙ why);
@@ -31,6 +33,7 @@ module _ {S K : Type 0} (rest : S → Option (List ℕ)) (reads : S → ℕ) (co
         well = λ none kept. cc (sym is ∙ none);
         whole = λ none. cc (sym is ∙ none);
         front = served.front;
+        framed = λ other. served.framed (λ why. other (is ∙ same_fault Fault'.Writing why));
         stops = served.stops;
         reading = λ why. served.reading (same Fault'.Reading (sym is ∙ why));
         writing = λ why. served.writing (same Fault'.Writing (sym is ∙ why));
@@ -42,3 +45,6 @@ module _ {S K : Type 0} (rest : S → Option (List ℕ)) (reads : S → ℕ) (co
     where
       same : (f : Fault) → Some e ≡ Some f → failed e ≡ failed f
       same f eq = let one : e ≡ f = cc eq in ap failed one
+
+      same_fault : (f : Fault) → failed e ≡ failed f → Some e ≡ Some f
+      same_fault f eq = let one : e ≡ f = cc eq in ap (λ (g : Fault). Some g) one

@@ -65,7 +65,7 @@ module _ {S K : Type 0} where
 module _ {S K : Type 0} (P : Ends S K → EndedRing S K → Type 0) (Q : ℕ → Ends S K → EndedRing S K → Type 0) where
   -- when all are done this is left of each stream, by number
   pub all_ended_from : (rs : List (RingThread S K)) (news : List (ServerTask S K)) (m : ℕ) → length news ≡ length (tasks_for rs) → DidEach P (tasks_for rs) news
-      → ((k : ℕ) (e : Ends S K) (d : EndedRing S K) → slice_get news k ≡ Some (Task'.Served d) → P e d → Q (m + k) e d)
+      → ((k : ℕ) (e : Ends S K) (d : EndedRing S K) → k < length rs → slice_get news k ≡ Some (Task'.Served d) → P e d → Q (m + k) e d)
       → AllBecameFrom Q m (map (λ r. r.ends) rs) (ended_of news)
   all_ended_from [] [] m n did f = absurd (omega (arith, n))
   all_ended_from [] (u ∷ v ∷ us) m n did f = absurd (omega (arith, n))
@@ -76,8 +76,8 @@ module _ {S K : Type 0} (P : Ends S K → EndedRing S K → Type 0) (Q : ℕ →
   all_ended_from (r ∷ rs) (Task'.Serve ring ∷ us) m n did f = absurd (did 0 (Task'.Serve r) (Task'.Serve ring) refl refl)
   all_ended_from (r ∷ rs) (Task'.Served ended ∷ us) m n did f =
       let none : m + 0 ≡ m = omega arith in (
-        subst (λ (k : ℕ). Q k r.ends ended) none (f 0 r.ends ended refl (did 0 (Task'.Serve r) (Task'.Served ended) refl refl)),
+        subst (λ (k : ℕ). Q k r.ends ended) none (f 0 r.ends ended (omega arith) refl (did 0 (Task'.Serve r) (Task'.Served ended) refl refl)),
         all_ended_from rs us (m + 1) (omega (arith, n)) (λ k t u was is. did (suc k) t u was is)
-            (λ k e d at h. let same : m + suc k ≡ (m + 1) + k = omega arith in subst (λ (j : ℕ). Q j e d) same (f (suc k) e d at h)),
+            (λ k e d lt at h. let same : m + suc k ≡ (m + 1) + k = omega arith in subst (λ (j : ℕ). Q j e d) same (f (suc k) e d (omega (arith, lt)) at h)),
       )
   all_ended_from (r ∷ rs) (Task'.Work ∷ us) m n did f = absurd (did 0 (Task'.Serve r) Task'.Work refl refl)

@@ -15,7 +15,6 @@ are_for_rings (w ∷ ws) = bytes_eq w (codes "--rings")
 -- a run that is set up as asked for, with this secret; it goes on where memory is missing, unless its secret was given
 abbrev pub setup_by : RingWords → Secret → Layout
 setup_by w secret = record {
-  rings = w.rings;
   squeues = w.squeues;
   mode = w.mode;
   budget = w.budget;

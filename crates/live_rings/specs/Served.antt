@@ -1,9 +1,9 @@
 -- What is known of each stream when its ring has ended.
-use Rattle.std.specs.Prelude.{◌≡◌, ◌≢◌, ℕ, Bool, false, Option, None, Some, IfSome, Result, Ok, Err, OnOk, List, []}
+use Rattle.std.specs.Prelude.{◌≡◌, ◌≢◌, ℕ, ◌<◌, Bool, false, Option, None, Some, IfSome, Result, Ok, Err, OnOk, List, []}
 use Rattle.std.specs.Io.KnownBytes.{Appends, Consumes}
 use Rattle.sq_base.specs.Ends.{Rose}
 use Rattle.live_server.specs.Frames.{answers, frames_in, rest_of}
-use Rattle.live_run.specs.Fronts.{AppendsFront}
+use Rattle.live_run.specs.Fronts.{AppendsFront, AppendsFrames}
 use Rattle.live_run.specs.declared.fault.Fault.{Fault}
 use Rattle.live_run.specs.declared.fault.Fault.TheVariants as Fault'
 use Rattle.live_rings.specs.declared.ending.Ends.{Ends}
@@ -37,6 +37,7 @@ module _ {S K : Type 0} (rest : S → Option (List ℕ)) (reads : S → ℕ) (co
     pub written : OnOk result (lost ≡ false → IfSome (rest reader) (λ input. Appends (contents sink) (contents sink') (answers input (server_of setup))))
     pub whole : OnOk result (IfSome (rest reader) (λ input. rest_of input ≡ []))
     pub front : lost ≡ false → IfSome (rest reader) (λ input. AppendsFront (contents sink) (contents sink') (answers input (server_of setup)))
+    pub framed : result ≢ Err Fault'.Writing → AppendsFrames (contents sink) (contents sink')
     pub stops : setup.goes_on ≡ false → lost ≡ false
     pub reading : result ≡ Err Fault'.Reading → Rose (reads reader) (reads reader')
     pub writing : result ≡ Err Fault'.Writing → Rose (faults sink) (faults sink')
@@ -50,11 +51,12 @@ module _ {S K : Type 0} (rest : S → Option (List ℕ)) (reads : S → ℕ) (co
   -- sink got what one server answers to them; in any case the sink got a front of that. What went wrong has its cause: a read failed there,
   -- or a write, or its input isn't whole frames. Where a read failed the sink got what is answered to all that was read, and where the input
   -- isn't whole frames what is answered to those that are. Memory may be missing at any time; where the run goes on, that may cost a
-  -- connection, and then nothing is known of what the sink got
+  -- connection, and then of what the sink got is known that it is whole frames, unless a write failed
   pub record HasEnded (setup : Layout) (e : Ends S K) (d : EndedRing S K) : Type 0 where
     pub well : d.fault ≡ None → d.lost ≡ false → IfSome (rest e.reader) (λ input. Appends (contents e.sink) (contents d.sink) (answers input (server_of setup)))
     pub whole : d.fault ≡ None → IfSome (rest e.reader) (λ input. rest_of input ≡ [])
     pub front : d.lost ≡ false → IfSome (rest e.reader) (λ input. AppendsFront (contents e.sink) (contents d.sink) (answers input (server_of setup)))
+    pub framed : d.fault ≢ Some Fault'.Writing → AppendsFrames (contents e.sink) (contents d.sink)
     pub stops : setup.goes_on ≡ false → d.lost ≡ false
     pub reading : d.fault ≡ Some Fault'.Reading → Rose (reads e.reader) (reads d.reader)
     pub writing : d.fault ≡ Some Fault'.Writing → Rose (faults e.sink) (faults d.sink)
@@ -69,10 +71,11 @@ module _ {S K : Type 0} (rest : S → Option (List ℕ)) (reads : S → ℕ) (co
     pub ended : HasEnded setup e d
     pub lived : d.fault ≡ None → d.lost ≡ false → IfSome (rest e.reader) (λ input. LivedBy at d.pass.value (told_frames (frames_in input) (server_of setup)))
 
-  -- In the history of an ended squeue, in which it had this number, each connection that begins had its own stays, with a feed for its beginning
-  -- and one for each frame that it heard
+  -- In the history of an ended squeue, one of whose rings had this number, each connection that begins had its own stays, with a feed for its
+  -- beginning and one for each frame that it heard
   pub record EndedIn (setup : Layout) (end : Ending) (k : ℕ) (e : Ends S K) (d : EndedRing S K) : Type 0 where
     pub ended : HasEnded setup e d
+    pub ring : k < end.setting.rings
     pub lived : d.fault ≡ None → d.lost ≡ false
         → IfSome (rest e.reader) (λ input. AreMadeOf (stays_by end.setting k end.history) (lives (told_frames (frames_in input) (server_of setup))))
 

@@ -119,7 +119,6 @@ pub fn setup_by(asked: RingWords, secret: Secret) -> Layout
 {
     let goes_on = asked.secret.is_none();
     Layout {
-        rings: asked.rings,
         squeues: asked.squeues,
         mode: asked.mode,
         budget: asked.budget,

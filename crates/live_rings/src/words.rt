@@ -10,11 +10,10 @@ use shell::numeral;
 use squeue_enter::Mode;
 use squeue_streams::SourcePace;
 
-/// How a run is set up: its rings and squeues, how rings enter, what each stream's server is started with, and whether a ring goes on where
+/// How a run is set up: its squeues, how rings enter, what each stream's server is started with, and whether a ring goes on where
 /// memory is missing, which then costs a connection.
 #[derive(Drop)]
 pub struct Layout {
-    pub rings: u32,
     pub squeues: u32,
     pub mode: Mode,
     pub budget: u32,
@@ -27,6 +26,7 @@ impl Layout {
     /// How rings enter.
     pub fn pace(&self) -> SourcePace
         requires { 1 ≤ self.now.budget }
+        ensures { (result.mode ≡ self.now.mode) × (result.budget ≡ self.now.budget) }
     {
         SourcePace {
             mode: self.mode,

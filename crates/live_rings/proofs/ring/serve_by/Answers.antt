@@ -23,6 +23,7 @@ returns-clause-served g c =
       written = subst (λ s. OnOk c.serve_stream-served.result (lost ≡ false → IfSome (g.S.Source.rest c.args.reader.now) (λ input. Appends (g.K.Sink.contents c.args.sink.now) (g.K.Sink.contents c.serve_stream-served.new.sink) (answers input s)))) first e.written;
       whole = e.whole;
       front = subst (λ s. lost ≡ false → IfSome (g.S.Source.rest c.args.reader.now) (λ input. AppendsFront (g.K.Sink.contents c.args.sink.now) (g.K.Sink.contents c.serve_stream-served.new.sink) (answers input s))) first e.front;
+      framed = e.framed;
       stops = λ no. e.stops no;
       reading = e.reading;
       writing = e.writing;

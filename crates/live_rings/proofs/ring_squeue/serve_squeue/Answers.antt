@@ -65,9 +65,12 @@ returns-in-Ok-new_squeue g c =
     let begun = c.in_ok-jobs.ensures.tasks ∙ c.in_ok-tasks.ensures in
     let news = tasks_in c.run_to_end-jobs.result.0.items in
     let done = subst (λ ts. AreDone P ts news) begun c.run_to_end-jobs.ensures.done in
+    let counted : c.len-count.result ≡ length c.args.ends.items = omega (arith, c.len-count.ensures, c.args.ends.ok.0) in
+    let rings : c.run_to_end-jobs.result.1.setting.rings ≡ length c.in_ok-chats.rings.items = ap (λ s. s.rings) c.run_to_end-jobs.ensures.setting ∙ (c.in-Ok-new_squeue.ensures.serves.its_rings
+    ∙ (counted ∙ sym (as_many c.in_ok-own.own (first_of c.in_ok-chats.chats) c.args.ends.items c.in_ok-chats.rings.items c.in_ok-chats.ensures.rings))) in
     let all = all_ended_from P Q c.in_ok-chats.rings.items news 0 done.many done.each
-    (λ k e d is h. let seen = c.run_to_end-jobs.ensures.seen k d is in
+    (λ k e d lt is h. let seen = c.run_to_end-jobs.ensures.seen k d is in
     let same : 0 + k ≡ k = omega arith in
     subst (λ n. Q n e d) (sym same) (ended_in g.S.Source.rest g.S.Source.read_faults g.K.Sink.contents g.K.Sink.write_faults c.args.setup.now at c.run_to_end-jobs.result.1 k e d
-    c.run_to_end-jobs.ensures.setting seen.0 seen.1 h)) in
+    c.run_to_end-jobs.ensures.setting (omega (arith, lt, rings)) seen.0 seen.1 h)) in
     subst (λ es. AllBecameFrom Q 0 es c.gather.result.items) c.in_ok-chats.ensures.rings.ends_are (subst (AllBecameFrom Q 0 _) (sym c.gather.ensures) all)
