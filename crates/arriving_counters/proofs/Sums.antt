@@ -28,12 +28,14 @@ module _ {W A O : Type 0} (origin : A → O) (given : A → List (ℕ × ℕ)) (
       record {
         all = served.all;
         its_items = served.its_items;
+        few = served.few;
         distinct = served.distinct;
         each = λ i part at.
-            let made = (served.each i part at).1 in
+            let each = served.each i part at in
+            let made = each.1 in
             let none : made.first ≡ 0 = made.begun in
             let is = added made.first part.state (items_for part.key served.all) (omega (arith, none)) made.taken in
-            omega (arith, is, none);
+            (each.0, omega (arith, is, none));
         every = served.every;
       }
 

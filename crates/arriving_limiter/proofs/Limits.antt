@@ -60,6 +60,7 @@ module _ {V : Type 0} (w : Limiting) (most : ℕ) where
         its_requests = was.its_items.gave ∙ ap (λ (l : List (ℕ × ℕ)). l ++ items_in was.all ++ refused_in left.refused) fresh.0;
         its_answers = was.its_answers ∙ ap (λ (l : List Bool). l ++ answers_in was.all) fresh.1;
         by_rule = λ k. ruled k (items_for k was.all) refl;
+        few = was.few;
         distinct = was.distinct;
         each = λ i part at. ((was.each i part at).0, (made w (items_for part.key was.all) part.state (was.each i part at).1).1);
         every = was.every;

@@ -1,5 +1,5 @@
 -- The answers of a rate limiter to the requests of a channel.
-use Rattle.std.specs.Prelude.{◌≡◌, ◌≢◌, ◌++◌, ℕ, Bool, Some, List, [], Contains, length, map, nat_eq, slice_get}
+use Rattle.std.specs.Prelude.{◌≡◌, ◌≢◌, ◌++◌, ◌≤◌, ℕ, Bool, Some, List, [], Contains, length, map, nat_eq, slice_get}
 use Rattle.std.specs.List.{IsDistinct}
 use Rattle.key_limiter.specs.Limiting.{decisions_of, full, level_by}
 use Rattle.key_limiter.specs.declared.limiter.Level.{Level}
@@ -15,12 +15,14 @@ use Rattle.squeue_answers.specs.declared.serving.AnsweredSource.{AnsweredSource}
 use Rattle.squeue_answers.specs.declared.sinks.Kept.{Kept}
 
 -- Through a channel came these requests, each a key, a time and an answer, and then maybe one that was refused; and the sink got their answers. What the
--- requests of a key are answered is what the limiter decides of their times, in order. There is one part for each key among them, and no other
+-- requests of a key are answered is what the limiter decides of their times, in order. There is one part for each key among them, and no other, and
+-- there are no more than places
 pub record IsLimited {W : Type 0} (limit : Limit) (most : ℕ) (left : AnsweredSource (Channelled ℕ W) (Kept Bool) ℕ Level) : Type 0 where
   pub all : List (ℕ × (ℕ × Bool))
   pub its_requests : received_by left.source ≡ items_in all ++ refused_in left.refused
   pub its_answers : kept_of left.sink ≡ answers_in all
   pub by_rule : (k : ℕ) → map (λ x. x.1) (items_for k all) ≡ decisions_of limit (map (λ x. x.0) (items_for k all))
+  pub few : length left.parts.items ≤ most
   pub distinct : IsDistinct nat_eq (keys_of left.parts.items)
   pub each : (i : ℕ) (part : KeyPart Level) → slice_get left.parts.items i ≡ Some part
       → (items_for part.key all ≢ []) × (part.state ≡ level_by limit (full limit) (map (λ x. x.0) (items_for part.key all)))

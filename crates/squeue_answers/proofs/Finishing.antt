@@ -238,6 +238,7 @@ module _ {V W T A S X K O : Type 0} (steps_of : V → W) (begins : W → S → T
   answered_in end k source left h rings result fin compared came source_is parts_are refused_is =
       record {
         ended = h.ended;
+        ring = h.ring;
         by = record {
           answered = is_answered source left h.by.served rings result fin compared came source_is parts_are refused_is;
           stays = λ i part at.

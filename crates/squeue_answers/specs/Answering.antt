@@ -1,5 +1,5 @@
 -- What is made of items that arrive with their keys, and what they are answered.
-use Rattle.std.specs.Prelude.{◌≡◌, ◌≢◌, ℕ, ◌+◌, ◌*◌, ◌≤◌, Some, List, [], ◌++◌, Contains, length, map, nat_eq, slice_get}
+use Rattle.std.specs.Prelude.{◌≡◌, ◌≢◌, ℕ, ◌+◌, ◌*◌, ◌<◌, ◌≤◌, Some, List, [], ◌++◌, Contains, length, map, nat_eq, slice_get}
 use Rattle.std.specs.List.{IsDistinct}
 use Rattle.perimeter_core.specs.History.{Element, Setting}
 use Rattle.histories.specs.Endings.{Ending, HasEnded}
@@ -33,8 +33,8 @@ module _ {W T A S X K O : Type 0} (begins : W → S → Type 0) (step : W → S 
         → (items_for part.key all ≢ []) × IsMadeOf begins (ByAnswered step) work (items_for part.key all) part.state
     pub every : (k : ℕ) → items_for k all ≢ [] → Contains (keys_of left.parts.items) k
 
-  -- and in this history of this setting the part of each key had a feed for each of its items, in stays each of which ring k ended: the part
-  -- of the i-th key is number k plus i times the rings
+  -- and in this history of this setting the part of each key had as many feeds as items, in all stays that ring k ended: the part of the i-th
+  -- key is number k plus i times the rings
   pub record IsAnsweredBy (at : Setting) (k : ℕ) (H : List Element) (source : X × K) (left : AnsweredSource X K T S) : Type 0 where
     pub answered : IsAnswered source left
     pub stays : (i : ℕ) (part : KeyPart S) → slice_get left.parts.items i ≡ Some part
@@ -43,4 +43,5 @@ module _ {W T A S X K O : Type 0} (begins : W → S → Type 0) (step : W → S 
   -- so it is in the history of an ended squeue, which is legal and over, where the source's ring had this number
   pub record IsAnsweredIn (end : Ending) (k : ℕ) (source : X × K) (left : AnsweredSource X K T S) : Type 0 where
     pub ended : HasEnded end
+    pub ring : k < end.setting.rings
     pub by : IsAnsweredBy end.setting k end.history source left

@@ -53,15 +53,15 @@ module _ {R W T S : Type 0} (step : Keyed W T S → S → T → S → Type 0) (l
         range = omega (arith, within, serves.conns);
         away = serves.away c;
         numbers = serves.feeds c within;
-        leaves = serves.leaves c within;
+        leaves = omega (arith, serves.leaves c within);
         part = stream_new IsFirst step o c new.part new.new.none new.new.uncounted (record { stream = new.part; its_number = new.its_part; its_input = refl; its_state = refl });
         ring = its_ring c place new;
         empty = new.new.none ∙ sym new.new.unsent;
       } in
       subst (IsFirstPlace IsFirst step limits s o p c) (sym new.place_is) at
 
-  pub knows_first : (stays : Stays T S) → AreNewStays rings k (first_of o) stays → Knows IsFirst step limits s o p stays
-  knows_first stays are = new_passes_know_of IsFirst step limits s o p stays new
+  pub knows_first : (stays : Stays T S) → (room : ℕ) → AreNewStays rings k room (first_of o) stays → Knows IsFirst step limits s o p stays
+  knows_first stays room are = new_passes_know_of IsFirst step limits s o p stays new
     where
       new : AreNew IsFirst step limits s o p stays
       new =
@@ -74,7 +74,7 @@ module _ {R W T S : Type 0} (step : Keyed W T S → S → T → S → Type 0) (l
             no_worker = omega (arith, number_is, lt, many);
             feeds = omega (arith, feeds, are.life.0);
             asks = omega (arith, asks, are.life.1);
-            none = are.none;
+            none = are.idle.none;
             each = λ c place at. elim (cases_eq (c % rings) k) [
               | inl mine ↦ new_is c place mine (are.own c place at mine)
               | inr other ↦ subst (IsFirstPlace IsFirst step limits s o p c) (sym (are.others c place at other)) tt

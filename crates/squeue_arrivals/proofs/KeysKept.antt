@@ -20,7 +20,7 @@ use Rattle.squeue_arrivals.specs.Placed.{SameRing, keys_in, most_in, place_of}
 use Rattle.squeue_arrivals.specs.declared.ring_keys.RingKeys.{RingKeys}
 use Rattle.squeue_arrivals.specs.declared.steps.Keyed.{Keyed}
 use Rattle.squeue_arrivals.proofs.KeyLists.{items_more, items_other, one_number}
-use Rattle.squeue_arrivals.proofs.PlacesKept.{serves_on, unused_on}
+use Rattle.squeue_arrivals.proofs.PlacesKept.{leaves_few, serves_on, unused_on}
 use Rattle.squeue_arrivals.proofs.Seated.{get_more}
 
 -- places of two numbers are two
@@ -99,8 +99,8 @@ module _ {R W T S : Type 0} (step : Keyed W T S → S → T → S → Type 0) (l
       record {
         knows = knows;
         table = has.table;
-        at = λ i key is. let n = length (items_for key all) in serves_on (setting_of limits s.given) p q a b (place_of k i) n n (items_for key all) same grows (keeps (place_of k i)) (let le : n ≤ n = omega arith in le) (has.at i key is);
-        free = λ i le lt. unused_on a b (place_of k i) (keeps (place_of k i)) (has.free i le lt);
+        at = λ i key is. let n = length (items_for key all) in serves_on (setting_of limits s.given) p q a b (place_of k i) n n (items_for key all) same grows (keeps (place_of k i)) (let le : n ≤ n = omega arith in le) (leaves_few limits s step o q b knows) (has.at i key is);
+        free = λ i le lt. unused_on (setting_of limits s.given) a b (place_of k i) (keeps (place_of k i)) (has.free i le lt);
       }
 
   module _ (p q : Pass Element) (a b : Stays T S) (k : RingKeys) (i key : ℕ) (has : HasKeys step limits s o all p a k) (is_at : slice_get (keys_in k) i ≡ Some key)
@@ -123,13 +123,13 @@ module _ {R W T S : Type 0} (step : Keyed W T S → S → T → S → Type 0) (l
                 let there = place_apart k j i (λ e. apart (sym e)) in
                 let others : key ≢ other = λ e. apart (one_number (keys_in k) i j other has.table.distinct (is_at ∙ ap (λ (n : ℕ). Some n) e) at) in
                 let n = length (items_for other all) in
-                let still = serves_on (setting_of limits s.given) p q a b (place_of k j) n n (items_for other all) same grows (keeps (place_of k j) there) (let le : n ≤ n = omega arith in le) (has.at j other at) in
+                let still = serves_on (setting_of limits s.given) p q a b (place_of k j) n n (items_for other all) same grows (keeps (place_of k j) there) (let le : n ≤ n = omega arith in le) (leaves_few limits s step o q b knows) (has.at j other at) in
                 subst (λ (xs : List T). Serves (setting_of limits s.given) q b (place_of k j) xs (length xs)) (sym (items_other other key x all others)) still
           ];
           free = λ j le lt.
               let within = slice_get_within (keys_in k) i key is_at in
               let there = place_apart k j i (λ e. absurd (omega (arith, e, le, within))) in
-              unused_on a b (place_of k j) (keeps (place_of k j) there) (has.free j le lt);
+              unused_on (setting_of limits s.given) a b (place_of k j) (keeps (place_of k j) there) (has.free j le lt);
         }
 
     pub all_came_more : (x : T) → AllCameBut all k key → AllCame (all ++ (key, x) ∷ []) k
@@ -165,7 +165,7 @@ module _ {R W T S : Type 0} (step : Keyed W T S → S → T → S → Type 0) (l
                 let apart = place_apart k j (length (keys_in k)) (λ e. absurd (omega (arith, e, within))) in
                 let n = length (items_for other all) in
                 subst (λ (c : ℕ). Serves (setting_of limits s.given) q b c (items_for other all) n) (sym (place_same k next j ring))
-                (serves_on (setting_of limits s.given) p q a b (place_of k j) n n (items_for other all) same grows (keeps (place_of k j) apart) (let le : n ≤ n = omega arith in le) (has.at j other there))
+                (serves_on (setting_of limits s.given) p q a b (place_of k j) n n (items_for other all) same grows (keeps (place_of k j) apart) (let le : n ≤ n = omega arith in le) (leaves_few limits s step o q b knows) (has.at j other there))
             | inr last ↦
                 let here : place_of k (length (keys_in k)) ≡ place_of next j = ap (place_of k) (sym last.0) ∙ sym (place_same k next j ring) in
                 let items : [] ≡ items_for other all = sym none ∙ ap (λ (n : ℕ). items_for n all) last.1 in
@@ -174,8 +174,8 @@ module _ {R W T S : Type 0} (step : Keyed W T S → S → T → S → Type 0) (l
           ];
           free = λ j le lt.
               let apart = place_apart k j (length (keys_in k)) (λ e. absurd (omega (arith, e, le, many))) in
-              subst (IsUnused b) (sym (place_same k next j ring))
-              (unused_on a b (place_of k j) (keeps (place_of k j) apart) (has.free j (omega (arith, le, many)) (omega (arith, lt, ring.most))));
+              subst (IsUnused (setting_of limits s.given) b) (sym (place_same k next j ring))
+              (unused_on (setting_of limits s.given) a b (place_of k j) (keeps (place_of k j) apart) (has.free j (omega (arith, le, many)) (omega (arith, lt, ring.most))));
         }
 
     pub came_one : AllCame all k → AllCameBut all next key

@@ -21,7 +21,7 @@ use Rattle.squeue_streams.specs.declared.streams.Stream.{Stream}
 use Rattle.squeue_arrivals.specs.declared.steps.Keyed.{Keyed}
 use Rattle.squeue_arrivals.specs.Keyed.{first_of}
 use Rattle.squeue_arrivals.specs.declared.served.ServedSource.{ServedSource}
-use Rattle.squeue_arrivals.specs.Seating.{ServesPlaces}
+use Rattle.squeue_arrivals.specs.Seating.{ServesPlaces, room_of}
 use Rattle.squeue_arrivals.proofs.FirstKnown.{fresh_at}
 use Rattle.squeue_arrivals.proofs.FirstServed.{may_serve}
 use Rattle.squeue_arrivals.proofs.Looking.{may_look}
@@ -51,7 +51,7 @@ parts_of s = first_of (origin_of s.given.first)
 
 module _ {X P W T S A Z : Type 0} {G : Ghosts X P (Keyed W T S)} (step : Keyed W T S → S → T → S → Type 0) (s : Named (Places X P (Keyed W T S) G)) (most : ℕ) where
   -- a pass that has seen nothing may do its task
-  may_new : (rings : ℕ) → ServesPlaces limits_of s.given rings (length (parts_of s)) → (task : RingTask T S A Z) (p : Pass Element) (k : ℕ) → IsNewTask rings (length s.given.quotas) most (parts_of s) k task → IsPassOf number_of s.gate p → number p ≡ k → seen p ≡ [] → MayRun step s most task p
+  may_new : (rings : ℕ) → ServesPlaces limits_of s.given rings (length (parts_of s)) → (task : RingTask T S A Z) (p : Pass Element) (k : ℕ) → IsNewTask rings (length s.given.quotas) most (room_of s.given) (parts_of s) k task → IsPassOf number_of s.gate p → number p ≡ k → seen p ≡ [] → MayRun step s most task p
   may_new rings serves (Task'.Serve ring) p k t is number_is none = may_serve step s rings most k serves p is number_is t.0 none ring t.1
   may_new rings serves (Task'.Served ended) p k t is number_is none = absurd t
   may_new rings serves Task'.Watch p k t is number_is none = may_look limits_of s rings (length (parts_of s)) serves p is (let e = t.0 in omega (arith, number_is, e)) (let e = t.1 in omega (arith, number_is, e)) none
@@ -63,7 +63,7 @@ module _ {X P W T S A Z : Type 0} {G : Ghosts X P (Keyed W T S)} (step : Keyed W
   ReadyAt k j = (x : Pass Element) × (j.places.items ≡ Some x ∷ []) × MayRun step s most j.task x × (number x ≡ k)
 
   pub all_new : (rings : ℕ) → ServesPlaces limits_of s.given rings (length (parts_of s)) → (count : ℕ) (jobs : List (Job (RingTask T S A Z))) (passes : List (Pass Element)) (old : ℕ → List (Option (Pass Element)))
-      → AreNewTasks rings (length s.given.quotas) most (parts_of s) (tasks_in jobs) → AreHanded 0 count 0 passes old (lent_to jobs) → ((i : ℕ) → old i ≡ []) → AreFresh number_of s.gate 0 passes
+      → AreNewTasks rings (length s.given.quotas) most (room_of s.given) (parts_of s) (tasks_in jobs) → AreHanded 0 count 0 passes old (lent_to jobs) → ((i : ℕ) → old i ≡ []) → AreFresh number_of s.gate 0 passes
       → (k : ℕ) (j : Job (RingTask T S A Z)) → k ≤ count → slice_get jobs k ≡ Some j → ReadyAt k j
   all_new rings serves count jobs passes old tasks handed none fresh k j le is =
       let r = handed.each k le in
@@ -122,8 +122,8 @@ module _ {X P W T S A Z : Type 0} {G : Ghosts X P (Keyed W T S)} (step : Keyed W
           one e = cc e
 
       -- so it is of what is left of a source, and of who looked
-      pub known_pass : (k : ℕ) (d : ServedSource A T S) → slice_get (tasks_in new) k ≡ Some (Task'.Served d) → (lent_to new k ≡ Some d.pass.value ∷ []) × (number d.pass.value ≡ k)
-      known_pass k d is = let r = known_as k (Task'.Served d) d.pass.value (λ o e. e) is in (r.0, r.1.is_number)
+      pub known_pass : (k : ℕ) (d : ServedSource A T S) → slice_get (tasks_in new) k ≡ Some (Task'.Served d) → (lent_to new k ≡ Some d.pass.value ∷ []) × MayEnd limits_of k s d.pass.value
+      known_pass k d is = known_as k (Task'.Served d) d.pass.value (λ o e. e) is
 
       pub known_watch : (k : ℕ) (w : Watched Z) → slice_get (tasks_in new) k ≡ Some (Task'.Watched w) → (lent_to new k ≡ Some w.pass.value ∷ []) × MayEnd limits_of k s w.pass.value
       known_watch k w is = known_as k (Task'.Watched w) w.pass.value (λ o e. e) is

@@ -3,7 +3,8 @@ use Rattle.std.proofs.Common.{◌≡◌, ℕ, ◌+◌, ◌-◌, ◌<◌, ◌≤�
 use Rattle.std.proofs.lemmas.List.{length-map}
 use Rattle.std.proofs.lemmas.Option.{slice_get_within}
 use Rattle.std.specs.Prelude.{Some}
-use Rattle.turn_gate.specs.Passes.{AreFresh, number}
+use Rattle.turn_gate.specs.History.{Begins, only}
+use Rattle.turn_gate.specs.Passes.{AreFresh, mine, number, seen}
 use Rattle.turn_gate.specs.declared.pass.Pass.{Pass}
 use Rattle.perimeter_core.specs.History.{Element}
 use Rattle.perimeter_core.specs.declared.resident.Resident.{Ghosts}
@@ -25,7 +26,7 @@ use Rattle.placed_parts.specs.Placing.{limits_of}
 use Rattle.squeue_arrivals.specs.declared.steps.Keyed.{Keyed}
 use Rattle.squeue_arrivals.specs.declared.served.ServedSource.{ServedSource}
 use Rattle.squeue_arrivals.specs.declared.watching.Watched.{Watched}
-use Rattle.squeue_arrivals.specs.Seating.{ServesPlaces}
+use Rattle.squeue_arrivals.specs.Seating.{ServesPlaces, room_of}
 use Rattle.squeue_arrivals.specs.declared.ring.RingTask.{RingTask}
 use Rattle.squeue_arrivals.specs.Tasks.{AreDone, AreNewTasks, HasDone, Ran}
 use Rattle.ring_groups.proofs.Grouped.{whole_back}
@@ -42,7 +43,7 @@ pub record Lends {X P W T S A Z : Type 0} {G : PartGhosts X P (Keyed W T S)} (st
 module _ {X P W T S A Z : Type 0} {G : PartGhosts X P (Keyed W T S)} (step : Keyed W T S → S → T → S → Type 0) (most : ℕ) (s : Named (Places X P (Keyed W T S) G)) where
   -- so it is where each pass of a new squeue went to a job without places
   pub lends : ServesPlaces limits_of s.given s.given.rings (length (parts_of s)) → (first items jobs : List (Job (RingTask T S A Z))) (n : ℕ) (old all : List (Named (Places X P (Keyed W T S) G))) (passes : List (Pass Element)) → n ≡ length first
-      → AreNewTasks s.given.rings (length s.given.quotas) most (parts_of s) (tasks_in first) → All (λ j. j.places.items ≡ []) first → tasks_in items ≡ tasks_in first → jobs ≡ items → old ≡ [] → all ≡ old ++ s ∷ []
+      → AreNewTasks s.given.rings (length s.given.quotas) most (room_of s.given) (parts_of s) (tasks_in first) → All (λ j. j.places.items ≡ []) first → tasks_in items ≡ tasks_in first → jobs ≡ items → old ≡ [] → all ≡ old ++ s ∷ []
       → AreHanded 0 (n - 1) (length old) passes (lent_to first) (lent_to items) → AreFresh number_of s.gate 0 passes → Lends step most s jobs n all
   lends serves first items jobs n old all passes counted tasks empty kept same none is handed fresh =
       let stays : tasks_in jobs ≡ tasks_in first = ap tasks_in same ∙ kept in
@@ -51,7 +52,7 @@ module _ {X P W T S A Z : Type 0} {G : PartGhosts X P (Keyed W T S)} (step : Key
       omega (arith, counted, tasks.count, length-map first (λ (j : Job (RingTask T S A Z)). j.task), ap length stays, length-map jobs (λ (j : Job (RingTask T S A Z)). j.task)) in
       let none_yet = subst (λ (q : ℕ). AreHanded 0 (n - 1) q passes (lent_to first) (lent_to items)) (ap length none) handed in
       let each = subst (λ (l : List (Job (RingTask T S A Z))). AreHanded 0 (n - 1) 0 passes (lent_to first) (lent_to l)) (sym same) none_yet in
-      let now = subst (AreNewTasks s.given.rings (length s.given.quotas) most (parts_of s)) (sym stays) tasks in
+      let now = subst (AreNewTasks s.given.rings (length s.given.quotas) most (room_of s.given) (parts_of s)) (sym stays) tasks in
       record {
         passes = count;
         many = many;
@@ -71,7 +72,7 @@ pub record CameBack {X P W T S A Z : Type 0} {G : PartGhosts X P (Keyed W T S)} 
   pub many : length new ≡ (n - 1) + 1
   pub as_many : length (tasks_in new) ≡ length (tasks_in old)
   pub ends : AreLent (MayEnd limits_of) 0 (n - 1) all (lent_to back)
-  pub passes : (k : ℕ) (d : ServedSource A T S) → slice_get (tasks_in new) k ≡ Some (Task'.Served d) → (lent_to back k ≡ Some d.pass.value ∷ []) × (number d.pass.value ≡ k)
+  pub passes : (k : ℕ) (d : ServedSource A T S) → slice_get (tasks_in new) k ≡ Some (Task'.Served d) → (lent_to back k ≡ Some d.pass.value ∷ []) × MayEnd limits_of k s d.pass.value
   pub watched : (k : ℕ) (w : Watched Z) → slice_get (tasks_in new) k ≡ Some (Task'.Watched w) → (lent_to back k ≡ Some w.pass.value ∷ []) × MayEnd limits_of k s w.pass.value
   pub did : (k : ℕ) (t u : RingTask T S A Z) → slice_get (tasks_in old) k ≡ Some t → slice_get (tasks_in new) k ≡ Some u → HasDone Q L t u
 
@@ -105,6 +106,10 @@ pub are_done : {T S A Z : Type 0} {Q : A → ServedSource A T S → Type 0} {L :
 are_done {T = T} {S = S} {A = A} {Z = Z} {Q = Q} {L = L} first olds news last begun same n did =
     let all : AreDone Q L olds news = record { many = n; each = did } in
     subst (λ (ts : List (RingTask T S A Z)). AreDone Q L ts last) begun (subst (λ (ts : List (RingTask T S A Z)). AreDone Q L olds ts) (sym same) all)
+
+-- a pass that knows the history's end has seen all of its own
+pub known_own : (k : ℕ) (H : List Element) (p : Pass Element) → number p ≡ k → only number_of (number p) (seen p) ≡ mine p → Knows H p → (number p ≡ k) × Begins (seen p) H × (only number_of k H ≡ only number_of k (seen p))
+known_own k H p is own knows = (is, knows.0, subst (λ (n : ℕ). only number_of n H ≡ only number_of n (seen p)) is (knows.1 ∙ sym own))
 
 module _ {R P O : Type 0} (G : Ghosts R P O) (s : Named R) {count : ℕ} {all : List (Named R)} (left : List (Named R)) {t : Named R} {having without : ℕ → List (Option (Pass Element))} {r : R} {e : Ending} {trace : Traced}
     (is : all ≡ s ∷ []) (split : all ≡ left ++ t ∷ []) (come : HasCome G 0 count (length left) t having without r e trace) where

@@ -35,8 +35,8 @@ pub none_long : {A : Type 0} (xs : List A) → length xs ≡ 0 → xs ≡ []
 none_long [] n = refl
 none_long (x ∷ xs) n = absurd (omega (arith, n))
 
-pub as_many : {T S A : Type 0} (most : ℕ) (parts : List (Stream T S)) (es : List A) (rs : List (Ring T S A)) → AreNewRings most parts es rs → length rs ≡ length es
-as_many {T} {S} {A} most parts es rs are = sym (length-map rs (λ (r : Ring T S A). r.source)) ∙ ap length are.sources_are
+pub as_many : {T S A : Type 0} (most room : ℕ) (parts : List (Stream T S)) (es : List A) (rs : List (Ring T S A)) → AreNewRings most room parts es rs → length rs ≡ length es
+as_many {T} {S} {A} most room parts es rs are = sym (length-map rs (λ (r : Ring T S A). r.source)) ∙ ap length are.sources_are
 
 pub tasks_long : {T S A : Type 0} (Z : Type 0) (lookers : ℕ) (rs : List (Ring T S A)) → length (tasks_for {Z = Z} lookers rs) ≡ length rs + lookers + 1
 tasks_long {T} {S} {A} Z lookers rs =
@@ -51,25 +51,25 @@ module _ {T S A Z : Type 0} where
   serve_got (r ∷ rs) (suc k) t is = serve_got rs k t is
 
   -- the rings have their tasks, behind them those who look, and the worker
-  pub are_tasks : (n lookers most : ℕ) (parts : List (Stream T S)) (es : List A) (rs : List (Ring T S A)) → n ≡ length es → AreNewRings most parts es rs → AreNewTasks n (n + lookers) most parts (tasks_for {Z = Z} lookers rs)
-  are_tasks n lookers most parts es rs counted are =
+  pub are_tasks : (n lookers most room : ℕ) (parts : List (Stream T S)) (es : List A) (rs : List (Ring T S A)) → n ≡ length es → AreNewRings most room parts es rs → AreNewTasks n (n + lookers) most room parts (tasks_for {Z = Z} lookers rs)
+  are_tasks n lookers most room parts es rs counted are =
       let front : List (RingTask T S A Z) = map (λ r. Task'.Serve r) rs in
       let mid : List (RingTask T S A Z) = replicate lookers Task'.Watch in
       let serve : Ring T S A → RingTask T S A Z = λ r. Task'.Serve r in
-      let many : length front ≡ n = length-map rs serve ∙ (as_many most parts es rs are ∙ sym counted) in
+      let many : length front ≡ n = length-map rs serve ∙ (as_many most room parts es rs are ∙ sym counted) in
       let behind : length mid ≡ lookers = long {A = RingTask T S A Z} lookers Task'.Watch in
       record {
-        count = omega (arith, tasks_long Z lookers rs, as_many most parts es rs are, counted);
+        count = omega (arith, tasks_long Z lookers rs, as_many most room parts es rs are, counted);
         each = λ c t at. elim (either front (mid ++ Task'.Work ∷ []) t c at) [
           | inl there ↦
               let r = serve_got rs c t there in
               let within : c < n = omega (arith, slice_get_within front c t there, many) in
-              subst (IsNewTask n (n + lookers) most parts c) r.2 (within, subst (λ (m : ℕ). IsNewRing m most parts c r.0) (sym counted) (are.each c r.0 r.1))
+              subst (IsNewTask n (n + lookers) most room parts c) r.2 (within, subst (λ (m : ℕ). IsNewRing m most room parts c r.0) (sym counted) (are.each c r.0 r.1))
           | inr (k, is, there) ↦ elim (get_more mid Task'.Work t k there) [
             | inl looks ↦
-                subst (IsNewTask n (n + lookers) most parts c) (all_one lookers Task'.Watch k t looks)
+                subst (IsNewTask n (n + lookers) most room parts c) (all_one lookers Task'.Watch k t looks)
                 (omega (arith, is, many), omega (arith, is, many, slice_get_within mid k t looks, behind))
-            | inr last ↦ subst (IsNewTask n (n + lookers) most parts c) last.1 (let e = last.0 in omega (arith, is, e, many, behind))
+            | inr last ↦ subst (IsNewTask n (n + lookers) most room parts c) last.1 (let e = last.0 in omega (arith, is, e, many, behind))
           ]
         ];
       }

@@ -13,8 +13,8 @@ use Rattle.squeue_arrivals.proofs.Seated.{get_more}
 
 module _ {T S : Type 0} where
   -- a ring's own of those that are left are its own of all
-  own_of_all : (rings ring : ℕ) (all left : List (Place T S)) (stays : Stays T S) → ((c : ℕ) → ring ≤ c % rings → slice_get left c ≡ slice_get all c) → length left ≡ length all → AreOwnStays rings ring left stays → AreOwnStays rings ring all stays
-  own_of_all rings ring all left stays same count is =
+  own_of_all : (rings ring room : ℕ) (all left : List (Place T S)) (stays : Stays T S) → ((c : ℕ) → ring ≤ c % rings → slice_get left c ≡ slice_get all c) → length left ≡ length all → AreOwnStays rings ring room left stays → AreOwnStays rings ring room all stays
+  own_of_all rings ring room all left stays same count is =
       record {
         own = record {
           many = is.own.many ∙ count;
@@ -22,24 +22,24 @@ module _ {T S : Type 0} where
           others = is.own.others;
         };
         life = is.life;
-        none = is.none;
+        idle = is.idle;
       }
 
   -- and where all are new, so are its own
-  new_of_own : (rings ring : ℕ) (parts : List (Stream T S)) (all : List (Place T S)) (stays : Stays T S) → AreNewPlaces parts all → AreOwnStays rings ring all stays → AreNewStays rings ring parts stays
-  new_of_own rings ring parts all stays new is =
+  new_of_own : (rings ring room : ℕ) (parts : List (Stream T S)) (all : List (Place T S)) (stays : Stays T S) → AreNewPlaces parts all → AreOwnStays rings ring room all stays → AreNewStays rings ring room parts stays
+  new_of_own rings ring room parts all stays new is =
       record {
         count = is.own.many ∙ new.many;
         own = λ c place at mine. new.each c place (is.own.here c place at mine);
         others = is.own.others;
         life = is.life;
-        none = is.none;
+        idle = is.idle;
       }
 
-module _ {T S A : Type 0} (rings most : ℕ) where
+module _ {T S A : Type 0} (rings most room : ℕ) where
   -- a ring has its own of these places, and no keys, and room for its parts
   abbrev pub HasOwn : ℕ → List (Place T S) → Ring T S A → Type 0
-  HasOwn k all r = AreOwnStays rings k all r.stays × IsWithoutKeys rings k most r.keys × (r.room.items ≡ []) × (most ≤ vec_capacity r.room)
+  HasOwn k all r = AreOwnStays rings k room all r.stays × IsWithoutKeys rings k most r.keys × (r.room.items ≡ []) × (most ≤ vec_capacity r.room)
 
   -- the first so many rings have their places, and the others' places and sources are left
   pub record IsDealt (n : ℕ) (all left : List (Place T S)) (first sources : List A) (made : List (Ring T S A)) : Type 0 where
@@ -75,7 +75,7 @@ module _ {T S A : Type 0} (rings most : ℕ) where
           | inl there ↦ was.each k x there
           | inr last ↦
               let here : n ≡ k = sym was.many ∙ sym last.0 in
-              subst (λ (j : ℕ). HasOwn j all x) here (subst (λ (y : Ring T S A). HasOwn n all y) last.1 (own_of_all rings n all left r.stays was.left_of was.count own.0, own.1, own.2, own.3))
+              subst (λ (j : ℕ). HasOwn j all x) here (subst (λ (y : Ring T S A). HasOwn n all y) last.1 (own_of_all rings n room all left r.stays was.left_of was.count own.0, own.1, own.2, own.3))
         ];
         left_of = λ c le. others c (λ e. absurd (omega (arith, e, le))) ∙ was.left_of c (omega (arith, le));
         count = count ∙ was.count;
@@ -83,11 +83,11 @@ module _ {T S A : Type 0} (rings most : ℕ) where
 
   -- all rings have their places
   pub all_dealt : (n : ℕ) (all left : List (Place T S)) (first sources : List A) (made : List (Ring T S A)) (parts : List (Stream T S)) → IsDealt n all left first sources made → sources ≡ [] → rings ≡ length first → AreNewPlaces parts all
-      → length parts ≡ rings * most → AreNewRings most parts first made
+      → length parts ≡ rings * most → AreNewRings most room parts first made
   all_dealt n all left first sources made parts is none counted new many =
       record {
         sources_are = sym (is.sources_are ∙ (ap (λ (l : List A). map (λ r. r.source) made ++ reverse l) none ∙ append-nil (map (λ r. r.source) made)));
         each = λ k r at.
             (let own = is.each k r at in
-            subst (λ (m : ℕ). IsNewRing m most parts k r) counted (record { stays = new_of_own rings k parts all r.stays new own.0; count = many; keys = own.1; room = (own.2, own.3) }));
+            subst (λ (m : ℕ). IsNewRing m most room parts k r) counted (record { stays = new_of_own rings k room parts all r.stays new own.0; count = many; keys = own.1; parts_room = (own.2, own.3) }));
       }

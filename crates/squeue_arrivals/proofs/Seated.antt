@@ -7,7 +7,7 @@ use Rattle.std.proofs.lemmas.Bool.Decides.{nat_tests}
 use Rattle.rtrb.specs.declared.AnyItems.{AnyItems}
 use Rattle.rtrb.specs.declared.consumer.Consumer.{Consumer}
 use Rattle.rtrb.specs.declared.producer.Producer.{Producer}
-use Rattle.rtrb.specs.Ring.{IsPair, received, sent}
+use Rattle.rtrb.specs.Ring.{IsPair, known_free, received, sent}
 use Rattle.perimeter_core.specs.declared.entries.Act.{Act}
 use Rattle.perimeter_core.specs.Blocks.{Blocks, none_done}
 use Rattle.perimeter_core.specs.History.{Limits, feed_quotas}
@@ -108,7 +108,7 @@ serves stands size limits number rings lookers room quotas first g m few are new
           let none : nat_lt c 0 ≡ false = grind (arith, nat_tests) in
           m.its_blocks (all_new 0) c new ∙ none_at (nat_lt c 0) none;
       feeds = λ c lt. let e = ap (λ x. slice_index (limits x).feeds c) m.its_first ∙ (ap (λ (xs : List ℕ). slice_index xs c) feeds ∙ index_is (size first) c most_feeds lt) in omega (arith, e);
-      leaves = λ c lt. let e = ap (λ x. slice_index (limits x).leaves c) m.its_first ∙ (ap (λ (xs : List ℕ). slice_index xs c) leaves ∙ index_is (size first) c most_leaves lt) in omega (arith, e);
+      leaves = λ c lt. ap (λ x. slice_index (limits x).leaves c) m.its_first ∙ (ap (λ (xs : List ℕ). slice_index xs c) leaves ∙ index_is (size first) c most_leaves lt);
     }
   where
     none_at : (b : Bool) → b ≡ false → is_some {T = List Act} (if b then Some [] else None) ≡ false
@@ -167,11 +167,12 @@ module _ {T S : Type 0} where
       nothing : (c : ℕ) (q : Producer T Global AnyItems) → slice_get {X = Producer T Global AnyItems} [] c ≡ Some q → ⊥
       nothing c q is = cc is
 
-  pub new_pair : (p : Producer T Global AnyItems) (input : Consumer T Global AnyItems) (s : Stream T S) → IsPair p input → sent p ≡ [] → received input ≡ [] → input_of s ≡ input → count_of s ≡ 0 → IsNewPair p s
-  new_pair p input s pair unsent none is count =
+  pub new_pair : (p : Producer T Global AnyItems) (input : Consumer T Global AnyItems) (s : Stream T S) → IsPair p input → sent p ≡ [] → 1 ≤ known_free p → received input ≡ [] → input_of s ≡ input → count_of s ≡ 0 → IsNewPair p s
+  new_pair p input s pair unsent room none is count =
       record {
         pair = subst (λ (i : Consumer T Global AnyItems). IsPair p i) (sym is) pair;
         unsent = unsent;
+        room = room;
         none = ap (λ (i : Consumer T Global AnyItems). received i) is ∙ none;
         uncounted = count;
       }

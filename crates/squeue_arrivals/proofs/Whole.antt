@@ -1,14 +1,18 @@
 -- A source whose ring is done is served.
-use Rattle.std.proofs.Common.{◌≡◌, ℕ, ◌+◌, ◌*◌, ◌<◌, Some, List, length, slice_get, refl, ap, sym, ◌∙◌, subst, arith}
+use Rattle.std.proofs.Common.{◌≡◌, ℕ, ◌+◌, ◌*◌, ◌<◌, Some, List, [], ◌∷◌, length, slice_get, refl, ap, sym, ◌∙◌, subst, arith}
 use Rattle.std.specs.Prelude.{Contains, nat_eq, option_map}
 use Rattle.std.specs.List.{IsDistinct}
 use Rattle.std.proofs.lemmas.List.{length-map}
 use Rattle.std.proofs.lemmas.Option.{slice_get-map}
-use Rattle.turn_gate.specs.History.{Begins}
+use Rattle.turn_gate.specs.History.{Begins, only}
 use Rattle.turn_gate.specs.Passes.{number, seen}
 use Rattle.turn_gate.specs.declared.pass.Pass.{Pass}
+use Rattle.perimeter_core.specs.Deeds.{times_left}
 use Rattle.perimeter_core.specs.History.{Element, Limits, Setting}
+use Rattle.histories.specs.Elements.{closed_by, number_of}
 use Rattle.histories.specs.Endings.{Ending, HasEnded}
+use Rattle.histories.proofs.Counts.{left_append}
+use Rattle.squeue_state.specs.Clauses.{Added}
 use Rattle.squeue_state.specs.Naming.{Named, setting_of}
 use Rattle.squeue_streams.specs.Taking.{state_of}
 use Rattle.stream_stays.specs.declared.place.Place.TheVariants.{Vacant as Vacant'}
@@ -25,7 +29,7 @@ use Rattle.squeue_arrivals.specs.declared.served.KeyPart.{KeyPart}
 use Rattle.squeue_arrivals.specs.declared.served.ServedSource.{ServedSource}
 use Rattle.squeue_arrivals.specs.declared.steps.Keyed.{Keyed}
 use Rattle.squeue_arrivals.proofs.Closing.{made_of}
-use Rattle.squeue_arrivals.proofs.StaysKept.{fed_on}
+use Rattle.squeue_arrivals.proofs.StaysKept.{fed_on, fed_others}
 
 module _ {R W T S A O : Type 0} (begins : W → S → Type 0) (step : W → S → T → S → Type 0) (origin : A → O) (given : A → List (ℕ × T)) (is_over : A → Type 0) (limits : R → Limits) (s : Named R)
     (o : Keyed W T S) (most : ℕ) where
@@ -53,27 +57,32 @@ module _ {R W T S A O : Type 0} (begins : W → S → Type 0) (step : W → S �
   pub is_served_at : (all : List (ℕ × T)) (p q : Pass Element) (st : Stays T S) (k : RingKeys) (source : A) (left : ServedSource A T S) → AreBegun begins o → IsTable all k → AllCame all k
       → AreClosed (Tells step) limits s o all p st k → keys_of left.parts.items ≡ keys_in k
       → ((i : ℕ) (part : KeyPart S) → slice_get left.parts.items i ≡ Some part → (v : Vacant T S) × (place_at st (place_of k i) ≡ Some (Vacant' v)) × (part.state ≡ state_of v.part))
-      → HasGiven origin given is_over most (length (keys_in k)) all source left.source left.refused → most_in k ≡ most → left.pass.value ≡ q → Begins (seen p) (seen q) → number q ≡ number p → k.number ≡ number p
+      → HasGiven origin given is_over most (length (keys_in k)) all source left.source left.refused → most_in k ≡ most → left.pass.value ≡ q → Added limits s p (closed_by (number p)) q → k.number ≡ number p
       → k.rings ≡ s.given.rings → IsServedAt begins step origin given is_over (work_of o) most (setting_of limits s.given) source left
-  is_served_at all p q st k source left begun table came closed keys states gave is_most last grows same number_is rings_are =
+  is_served_at all p q st k source left begun table came closed keys states gave is_most last added number_is rings_are =
       record {
         served = is_served all p st k source left begun table came closed keys states gave is_most;
         stays = λ i part at.
             let key : slice_get (keys_in k) i ≡ Some part.key = ap (λ (l : List ℕ). slice_get l i) (sym keys) ∙ (slice_get-map (λ p. p.key) left.parts.items i ∙ ap (λ x. option_map (λ p. p.key) x) at) in
             let S = setting_of limits s.given in
             let n = length (items_for part.key all) in
-            let mine = fed_on S (number p) (number q) (place_of k i) n n (seen p) (seen q) grows same refl (closed.at i part.key key).2 in
+            let c = place_of k i in
+            let found = added.found in
+            let before = fed_others S (number p) c n (seen p) found added.goes_on (added.own ∙ sym closed.knows.life.pass.2) (closed.at i part.key key).2 in
+            let none : times_left c (closed_by (number p) ∷ []) ≡ 0 = refl in
+            let split = ap (times_left c) added.now_seen ∙ left_append c found (closed_by (number p) ∷ []) in
+            let mine = fed_on S (number p) (number q) c n n found (seen q) (closed_by (number p) ∷ [], added.now_seen) added.same_number refl (omega (arith, split, none)) before in
             let place : place_of k i ≡ number q + i * s.given.rings =
-            ap (λ (m : ℕ). m + i * k.rings) (number_is ∙ sym same) ∙ ap (λ (m : ℕ). number q + i * m) rings_are in
+            ap (λ (m : ℕ). m + i * k.rings) (number_is ∙ sym added.same_number) ∙ ap (λ (m : ℕ). number q + i * m) rings_are in
             let there = subst (λ (c : ℕ). WasFed S (number q) c n (seen q)) place mine in
             subst (λ (x : Pass Element). WasFed S (number x) (number x + i * s.given.rings) n (seen x)) (sym last) there;
       }
 
 -- what is so of what a ring's pass has seen is so of the history at its squeue's end
 module _ {W T S A O : Type 0} (begins : W → S → Type 0) (step : W → S → T → S → Type 0) (origin : A → O) (given : A → List (ℕ × T)) (is_over : A → Type 0) (work : W) (most : ℕ) where
-  pub served_in : (at : Setting) (end : Ending) (k : ℕ) (source : A) (left : ServedSource A T S) → HasEnded end → end.setting ≡ at → k < end.setting.rings → number left.pass.value ≡ k → Begins (seen left.pass.value) end.history
+  pub served_in : (at : Setting) (end : Ending) (k : ℕ) (source : A) (left : ServedSource A T S) → HasEnded end → end.setting ≡ at → k < end.setting.rings → number left.pass.value ≡ k → Begins (seen left.pass.value) end.history → only number_of k end.history ≡ only number_of k (seen left.pass.value)
       → IsServedAt begins step origin given is_over work most at source left → IsServedIn begins step origin given is_over work most end k source left
-  served_in at end k source left ended setting ring number_is grows h =
+  served_in at end k source left ended setting ring number_is grows own h =
       record {
         ended = ended;
         ring = ring;
@@ -82,7 +91,8 @@ module _ {W T S A O : Type 0} (begins : W → S → Type 0) (step : W → S → 
           stays = λ i part got.
               let n = length (items_for part.key h.served.all) in
               let p = number left.pass.value in
-              let now = fed_on at p p (p + i * at.rings) n n (seen left.pass.value) end.history grows refl refl (h.stays i part got) in
+              let same = subst (λ (m : ℕ). only number_of m end.history ≡ only number_of m (seen left.pass.value)) (sym number_is) own in
+              let now = fed_others at p (p + i * at.rings) n (seen left.pass.value) end.history grows same (h.stays i part got) in
               let mine = subst (λ (m : ℕ). WasFed at m (m + i * at.rings) n end.history) number_is now in
               subst (λ (S : Setting). WasFed S k (k + i * S.rings) n end.history) (sym setting) mine;
         };

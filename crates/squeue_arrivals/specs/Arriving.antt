@@ -62,8 +62,8 @@ module _ {W T S A O : Type 0} (begins : W → S → Type 0) (step : W → S → 
         → (items_for part.key all ≢ []) × IsMadeOf begins step work (items_for part.key all) part.state
     pub every : (k : ℕ) → items_for k all ≢ [] → Contains (keys_of left.parts.items) k
 
-  -- and in this history of this setting the part of each key had a feed for each of its items, in stays each of which ring k ended: the part
-  -- of the i-th key is number k plus i times the rings
+  -- and in this history of this setting the part of each key had as many feeds as items, in all stays that ring k ended: the part of the i-th
+  -- key is number k plus i times the rings
   pub record IsServedBy (at : Setting) (k : ℕ) (H : List Element) (source : A) (left : ServedSource A T S) : Type 0 where
     pub served : IsServed source left
     pub stays : (i : ℕ) (part : KeyPart S) → slice_get left.parts.items i ≡ Some part

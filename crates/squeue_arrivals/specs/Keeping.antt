@@ -1,8 +1,9 @@
 -- What stands at the places of a ring, and which key is at which of them.
-use Rattle.std.specs.Prelude.{◌≡◌, ◌≢◌, ℕ, ◌+◌, ◌<◌, ◌≤◌, nat_eq, Option, None, Some, List, [], ◌∷◌, ◌++◌, Contains, length, slice_get}
+use Rattle.std.specs.Prelude.{◌≡◌, ◌≢◌, ℕ, ◌+◌, ◌<◌, ◌≤◌, nat_eq, Option, None, Some, List, [], ◌∷◌, ◌++◌, Contains, length, slice_get, slice_index}
 use Rattle.std.specs.HashSet.{IsUnique, spare}
 use Rattle.turn_gate.specs.Passes.{number, seen}
 use Rattle.turn_gate.specs.declared.pass.Pass.{Pass}
+use Rattle.perimeter_core.specs.Deeds.{times_left}
 use Rattle.perimeter_core.specs.History.{Element, Limits, Setting}
 use Rattle.squeue_state.specs.Naming.{Named, setting_of}
 use Rattle.stream_stays.specs.declared.place.Place.TheVariants.{Open, Vacant as Vacant'}
@@ -28,20 +29,21 @@ module _ {T S : Type 0} where
   IsVacant st c = (v : Vacant T S) × (place_at st c ≡ Some (Vacant' v))
 
   -- it was at none yet, and nothing was sent there
-  pub record IsUnused (st : Stays T S) (c : ℕ) : Type 0 where
+  pub record IsUnused (at : Setting) (st : Stays T S) (c : ℕ) : Type 0 where
     pub vacant : Vacant T S
     pub is_vacant : place_at st c ≡ Some (Vacant' vacant)
     pub none : sent vacant.producer ≡ []
-    pub leaves : most_leaves ≤ vacant.leaves
+    pub leaves : (most_leaves ≤ vacant.leaves) × (slice_index at.limits.leaves c ≤ vacant.leaves)
 
-  -- Its part stays at the squeue, and these items were sent there. What the pass has seen has stays of it, with a feed for each of those that
-  -- were sent before this stay; and it may leave still, as often as at first but for so many times
+  -- Its part stays at the squeue, and these items were sent there. In what the pass has seen, its stays before this one had a feed for each of
+  -- those that were sent before it. It may leave still, as often as at first but for so many times; and as often as it may no more it left
   pub record Serves (at : Setting) (p : Pass Element) (st : Stays T S) (c : ℕ) (items : List T) (times : ℕ) : Type 0 where
     pub stay : Stay T
     pub is_open : place_at st c ≡ Some (Open stay)
     pub its_items : sent_of stay ≡ items
     pub before : WasFed at (number p) c (length (before_of stay)) (seen p)
     pub leaves : most_leaves ≤ leaves_of stay + times
+    pub left : slice_index at.limits.leaves c ≤ times_left c (seen p) + leaves_of stay
 
   -- each place has the same, and the same was sent there; or each but one
   abbrev pub Keeps : Stays T S → Stays T S → Type 0
@@ -78,7 +80,7 @@ module _ {W T S : Type 0} (step : Keyed W T S → S → T → S → Type 0) {R :
     pub table : IsTable all k
     pub at : (i key : ℕ) → slice_get (keys_in k) i ≡ Some key
         → Serves (setting_of limits s.given) p st (place_of k i) (items_for key all) (length (items_for key all))
-    pub free : (i : ℕ) → length (keys_in k) ≤ i → i < most_in k → IsUnused st (place_of k i)
+    pub free : (i : ℕ) → length (keys_in k) ≤ i → i < most_in k → IsUnused (setting_of limits s.given) st (place_of k i)
 
   -- and an item of each key came
   abbrev pub HasAll : List (ℕ × T) → Pass Element → Stays T S → RingKeys → Type 0
@@ -96,7 +98,7 @@ module _ {W T S : Type 0} (step : Keyed W T S → S → T → S → Type 0) {R :
   HasArrived all key item p st k (Some r) = HasAll all p st k × (r.key ≡ key) × (r.item ≡ item)
       × HasCause r.cause (most_in k) (length (keys_in k)) all key
 
-  -- The parts of all keys are at no squeue any more. What the pass has seen has stays of each, with a feed for each of its items
+  -- The parts of all keys are at no squeue any more. In what the pass has seen, the stays of each had a feed for each of its items
   pub record AreClosed (all : List (ℕ × T)) (p : Pass Element) (st : Stays T S) (k : RingKeys) : Type 0 where
     pub knows : Knows IsFirst step limits s o p st
     pub at : (i key : ℕ) → slice_get (keys_in k) i ≡ Some key

@@ -20,36 +20,36 @@ use Rattle.squeue_arrivals.specs.declared.ring.RingTask.{RingTask}
 use Rattle.squeue_arrivals.specs.declared.ring.RingTask.TheVariants as Task'
 use Rattle.squeue_arrivals.specs.Keeping.{HasKeys}
 use Rattle.squeue_arrivals.specs.Placed.{IsWithoutKeys, keys_in, most_in}
-use Rattle.squeue_arrivals.specs.Seating.{AreNewStays}
+use Rattle.squeue_arrivals.specs.Seating.{AreNewStays, IsIdle, room_of}
 use Rattle.squeue_arrivals.specs.Watching.{MayLook}
 use Rattle.squeue_arrivals.specs.declared.watching.Watched.{Watched}
 
 module _ {T S A : Type 0} where
-  -- ring k of so many has its own of the places with these parts, so many, where no key was ever; no key has one, and there is room for as
-  -- many parts
-  pub record IsNewRing (rings most : ℕ) (parts : List (Stream T S)) (k : ℕ) (ring : Ring T S A) : Type 0 where
-    pub stays : AreNewStays rings k parts ring.stays
+  -- ring k of so many, at a squeue with so much room, has its own of the places with these parts, so many, where no key was ever; no key has
+  -- one, and there is room for as many parts
+  pub record IsNewRing (rings most room : ℕ) (parts : List (Stream T S)) (k : ℕ) (ring : Ring T S A) : Type 0 where
+    pub stays : AreNewStays rings k room parts ring.stays
     pub count : length parts ≡ rings * most
     pub keys : IsWithoutKeys rings k most ring.keys
-    pub room : (ring.room.items ≡ []) × (most ≤ vec_capacity ring.room)
+    pub parts_room : (ring.room.items ≡ []) × (most ≤ vec_capacity ring.room)
 
   -- there is one for each of these sources, by number
-  pub record AreNewRings (most : ℕ) (parts : List (Stream T S)) (sources : List A) (rings : List (Ring T S A)) : Type 0 where
+  pub record AreNewRings (most room : ℕ) (parts : List (Stream T S)) (sources : List A) (rings : List (Ring T S A)) : Type 0 where
     pub sources_are : map (λ r. r.source) rings ≡ sources
-    pub each : (k : ℕ) (ring : Ring T S A) → slice_get rings k ≡ Some ring → IsNewRing (length sources) most parts k ring
+    pub each : (k : ℕ) (ring : Ring T S A) → slice_get rings k ≡ Some ring → IsNewRing (length sources) most room parts k ring
 
 module _ {T S A Z : Type 0} where
   -- there is a task for each pass, by number: a new ring's for each source, then that of each who looks, and then that of the worker
-  abbrev pub IsNewTask : ℕ → ℕ → ℕ → List (Stream T S) → ℕ → RingTask T S A Z → Type 0
-  IsNewTask rings passes most parts c (Task'.Serve ring) = (c < rings) × IsNewRing rings most parts c ring
-  IsNewTask rings passes most parts c (Task'.Served ended) = ⊥
-  IsNewTask rings passes most parts c Task'.Watch = (rings ≤ c) × (c < passes)
-  IsNewTask rings passes most parts c (Task'.Watched w) = ⊥
-  IsNewTask rings passes most parts c Task'.Work = c ≡ passes
+  abbrev pub IsNewTask : ℕ → ℕ → ℕ → ℕ → List (Stream T S) → ℕ → RingTask T S A Z → Type 0
+  IsNewTask rings passes most room parts c (Task'.Serve ring) = (c < rings) × IsNewRing rings most room parts c ring
+  IsNewTask rings passes most room parts c (Task'.Served ended) = ⊥
+  IsNewTask rings passes most room parts c Task'.Watch = (rings ≤ c) × (c < passes)
+  IsNewTask rings passes most room parts c (Task'.Watched w) = ⊥
+  IsNewTask rings passes most room parts c Task'.Work = c ≡ passes
 
-  pub record AreNewTasks (rings passes most : ℕ) (parts : List (Stream T S)) (tasks : List (RingTask T S A Z)) : Type 0 where
+  pub record AreNewTasks (rings passes most room : ℕ) (parts : List (Stream T S)) (tasks : List (RingTask T S A Z)) : Type 0 where
     pub count : length tasks ≡ passes + 1
-    pub each : (c : ℕ) (t : RingTask T S A Z) → slice_get tasks c ≡ Some t → IsNewTask rings passes most parts c t
+    pub each : (c : ℕ) (t : RingTask T S A Z) → slice_get tasks c ≡ Some t → IsNewTask rings passes most room parts c t
 
   -- the tasks of rings, behind them those of so many who look, and the worker's
   abbrev pub tasks_for : ℕ → List (Ring T S A) → List (RingTask T S A Z)
@@ -108,7 +108,8 @@ pass_in (o ∷ []) = o
 pass_in (o ∷ n ∷ os) = None
 
 module _ {R P W T S A : Type 0} {G : Ghosts R P (Keyed W T S)} (step : Keyed W T S → S → T → S → Type 0) (s : Named (Places R P (Keyed W T S) G)) (most : ℕ) where
-  -- A ring with so many places may serve by this pass, which knows them and has a whole life: no key has one, and there is room for the parts
+  -- A ring with so many places may serve by this pass, which knows them and has a whole life: no key has one, what it enters at once fits the
+  -- squeue, and there is room for the parts
   pub record MayServe (p : Pass Element) (ring : Ring T S A) : Type 0 where
     pub keys : HasKeys step limits_of s (origin_of s.given.first) [] p ring.stays ring.keys
     pub none : keys_in ring.keys ≡ []
@@ -116,6 +117,7 @@ module _ {R P W T S A : Type 0} {G : Ghosts R P (Keyed W T S)} (step : Keyed W T
     pub its_number : ring.keys.number ≡ number p
     pub its_rings : ring.keys.rings ≡ s.given.rings
     pub asks : 2 ^ 52 ≤ (life_of ring.stays).asks
+    pub idle : IsIdle (room_of s.given) ring.stays
     pub room : (ring.room.items ≡ []) × (most ≤ vec_capacity ring.room)
 
   -- what a task needs of its pass: a ring's knows the ring's places, one that looks hasn't yet, and the last one is the worker's

@@ -117,7 +117,7 @@ impl<X: KeySteps + Drop, H: Wait + Drop, W: Wait> Line<'_, KeyParts<X, H>, W> {
         c: u32,
     ) -> Pass
         requires knows { Knows IsFirst (Tells X.step) limits_of self.now.squeue.now (origin_of self.now.squeue.now.given.first) pass stays.old }
-        requires unused { IsUnused stays.old c }
+        requires unused { IsUnused (setting_of limits_of self.now.squeue.now.given) stays.old c }
         requires asks { 2 ≤ (life_of stays.old).asks }
         ensures knows { Knows IsFirst (Tells X.step) limits_of self.now.squeue.now (origin_of self.now.squeue.now.given.first) result stays.new }
         ensures number { number result ≡ number pass }

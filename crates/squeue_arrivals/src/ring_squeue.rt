@@ -1,7 +1,7 @@
 //! The sources of one squeue, from its making to its end.
 
 ghost use Rattle.std.specs.Prelude.{◌≡◌, ◌<◌, ◌≤◌, ◌+◌, ◌*◌, ◌^◌, ◌++◌, ◌∷◌, ℕ, List, [], All, IfOk, IfSome, Some, length, slice_get, vec_capacity};
-ghost use Rattle.turn_gate.specs.History.{Begins};
+ghost use Rattle.turn_gate.specs.History.{Begins, only};
 ghost use Rattle.turn_gate.specs.Passes.{AreFresh, number, seen};
 ghost use Rattle.placed_parts.specs.Placing.{limits_of, origin_of};
 ghost use Rattle.histories.specs.Elements.{number_of};
@@ -13,7 +13,7 @@ ghost use Rattle.squeue_streams.specs.declared.streams.Stream.{Stream};
 ghost use Rattle.squeue_arrivals.specs.Arriving.{IsServedAt, IsServedIn};
 ghost use Rattle.squeue_arrivals.specs.Keyed.{AreBegun, first_of, work_of};
 ghost use Rattle.squeue_arrivals.specs.Pooling.{IsInRange};
-ghost use Rattle.squeue_arrivals.specs.Seating.{AreNewPlaces, ServesPlaces, lookers_of};
+ghost use Rattle.squeue_arrivals.specs.Seating.{AreNewPlaces, ServesPlaces, lookers_of, room_of};
 ghost use Rattle.squeue_arrivals.specs.Tasks.{AreDone, AreNewRings, AreNewTasks, ended_of, tasks_for, watched_in, watched_of};
 ghost use Rattle.squeue_arrivals.specs.Watching.{HasWatched, SawLast, WasWatched};
 ghost use Rattle.squeue_arrivals.specs.declared.ring.RingTask.{RingTask};
@@ -24,7 +24,7 @@ ghost use Rattle.squeue_arrivals.specs.declared.watching.Watched.{Watched};
 use crate::pool::ArrivalPool;
 use crate::ring::{Ring, RingTask, run_rings};
 use crate::ring_keys::RingKeys;
-use crate::seating::{KeyParts, at_once, new_pairs, new_places, new_squeue, no_parts, own_stays};
+use crate::seating::{KeyParts, new_pairs, new_places, new_squeue, no_parts, own_stays};
 use crate::served::ServedSource;
 use crate::source::Arrivals;
 use crate::steps::{KeySteps, Keyed};
@@ -119,11 +119,11 @@ fn new_rings<X: KeySteps + Drop, A: Drop>(
     steps: X,
     sources: Vec<A>,
 ) -> Result<(Keyed<X>, Vec<Ring<X::Item, X::State, A>>), AllocError>
-    requires { (1 ≤ length sources.items) × (length sources.items ≤ 63) × (length sources.items * pool.now.places < 2 ^ 32) }
+    requires { (1 ≤ length sources.items) × (length sources.items ≤ 63) × (length sources.items * pool.now.places < 2 ^ 32) × (1 ≤ pool.now.room) }
     ensures steps { IfOk result (λ r. work_of r.0 ≡ steps) }
     ensures begun { IfOk result (λ r. AreBegun X.begins r.0) }
     ensures many { IfOk result (λ r. length (first_of r.0) ≡ length sources.items * pool.now.places) }
-    ensures rings { IfOk result (λ r. AreNewRings pool.now.places (first_of r.0) sources.items r.1.items) }
+    ensures rings { IfOk result (λ r. AreNewRings pool.now.places pool.now.room (first_of r.0) sources.items r.1.items) }
 {
     let count = sources.len() as u32;
     let (producers, parts) = new_pairs(alloc, &steps, count * pool.places)?;
@@ -141,8 +141,8 @@ fn deal_places<T: Drop, S: Drop, A: Drop>(
     sources: Vec<A>,
     places: Vec<Place<T, S>>,
 ) -> Result<Vec<Ring<T, S, A>>, AllocError>
-    requires { (1 ≤ count) × (length sources.items ≡ count) × (count * pool.now.places < 2 ^ 32) × (length places.items ≡ count * pool.now.places) }
-    ensures { IfOk result (λ v. (parts : List (Stream T S)) → AreNewPlaces parts places.items → AreNewRings pool.now.places parts sources.items v.items) }
+    requires { (1 ≤ count) × (length sources.items ≡ count) × (count * pool.now.places < 2 ^ 32) × (length places.items ≡ count * pool.now.places) × (1 ≤ pool.now.room) }
+    ensures { IfOk result (λ v. (parts : List (Stream T S)) → AreNewPlaces parts places.items → AreNewRings pool.now.places pool.now.room parts sources.items v.items) }
 {
     let mut sources = sources;
     let mut places = places;
@@ -152,7 +152,7 @@ fn deal_places<T: Drop, S: Drop, A: Drop>(
         let Some(source) = sources.pop() else {
             unreachable!()
         };
-        let stays = own_stays(alloc, count, ring, at_once(pool), &mut places)?;
+        let stays = own_stays(alloc, count, ring, pool.room, &mut places)?;
         let keys = RingKeys::none(alloc, count, ring, pool.places)?;
         let room = Vec::with_capacity(alloc, pool.places as usize)?;
         rings.push_reserved(Ring {
@@ -187,7 +187,7 @@ fn tasks_of<T: Drop, S: Drop, A: Drop, Z: Drop>(
 }
 
 // Lends a new squeue to the jobs, has them done, and ends it: the jobs, which hold no pass any more, and the squeue's end. Each ring's pass has
-// seen a beginning of its history, and so has that of who looked.
+// seen a beginning of its history, with all of its own, and so has that of who looked.
 fn run_to_end<
     X: KeySteps + Drop + Send + Sync,
     A: Arrivals<Item = X::Item> + Drop + Send,
@@ -212,14 +212,14 @@ where
     requires squeue { ServesPlaces limits_of squeue.given squeue.given.rings (length (first_of (origin_of squeue.given.first))) }
     requires begun { AreBegun X.begins (origin_of squeue.given.first) }
     requires passes { (length passes.items ≡ length squeue.given.quotas + 1) × AreFresh number_of squeue.gate 0 passes.items }
-    requires tasks { AreNewTasks squeue.given.rings (length squeue.given.quotas) pool.now.places (first_of (origin_of squeue.given.first)) (tasks_in jobs.items) }
+    requires tasks { AreNewTasks squeue.given.rings (length squeue.given.quotas) pool.now.places (room_of squeue.given) (first_of (origin_of squeue.given.first)) (tasks_in jobs.items) }
     requires jobs { All (λ j. j.places.items ≡ []) jobs.items × HaveRoom 1 jobs.items }
     requires squeues { (squeues.all.items ≡ []) × (squeues.rooms.items ≡ []) × (1 ≤ vec_capacity squeues.all) × (1 ≤ vec_capacity squeues.rooms) }
     ensures empty { All (λ j. j.places.items ≡ []) result.0.items }
     ensures setting { result.1.setting ≡ setting_of limits_of squeue.given }
     ensures ended { HasEnded result.1 }
     ensures seen { (k : ℕ) (d : ServedSource A X.Item X.State) → slice_get (tasks_in result.0.items) k ≡ Some (Served d)
-        → (number d.pass.value ≡ k) × Begins (seen d.pass.value) result.1.history }
+        → (number d.pass.value ≡ k) × Begins (seen d.pass.value) result.1.history × (only number_of k result.1.history ≡ only number_of k (seen d.pass.value)) }
     ensures watched { (k : ℕ) (w : Watched V.Seen) → slice_get (tasks_in result.0.items) k ≡ Some (Watched' w)
         → SawLast X.begins X.step (work_of (origin_of squeue.given.first)) (V.says watcher.now) result.1.setting k (V.many watcher.now) result.1.history w.last }
     ensures done { AreDone (IsServedAt X.begins X.step A.origin A.given A.is_over (work_of (origin_of squeue.given.first)) pool.now.places

@@ -11,9 +11,8 @@ ghost use Rattle.placed_parts.specs.Placing.{Stands, limits_of, origin_of, size_
 ghost use Rattle.placed_parts.specs.Standing.{all_new};
 ghost use Rattle.squeue_state.specs.Behind.{ever};
 ghost use Rattle.squeue_streams.specs.Taking.{most_feeds, most_leaves, state_of};
-ghost use Rattle.squeue_arrivals.specs.Seating.{AreNewPairs, AreNewPlaces, AreOwnStays, ServesPlaces, lives_of, lookers_of};
+ghost use Rattle.squeue_arrivals.specs.Seating.{AreNewPairs, AreNewPlaces, AreOwnStays, ServesPlaces, lives_of, lookers_of, room_of};
 
-use crate::pool::ArrivalPool;
 use crate::steps::{KeySteps, Keyed};
 use perimeter_core::Resident;
 use placed_parts::Places;
@@ -105,27 +104,22 @@ pub(crate) fn new_places<T: Drop, S: Drop>(
     Ok(places)
 }
 
-/// How many feeds a ring enters at once at most.
-pub(crate) fn at_once(pool: &ArrivalPool) -> usize {
-    AT_ONCE.min(pool.room as usize)
-}
-
-/// What a ring's pass begins with: of these places those that are the ring's, each at its number, and a whole life. What is taken is
-/// left out. Fails only for want of memory.
+/// What a ring's pass begins with at a squeue that has room for so many feeds: of these places those that are the ring's, each at its number, and a whole
+/// life. What is taken is left out. Fails only for want of memory.
 pub(crate) fn own_stays<T: Drop, S: Drop>(
     alloc: Global,
     rings: u32,
     ring: u32,
-    at_once: usize,
+    room: u32,
     places: &mut Vec<Place<T, S>>,
 ) -> Result<Stays<T, S>, AllocError>
-    requires { 1 ≤ rings }
-    ensures own { IfOk result (λ r. AreOwnStays rings ring places.old.items r) }
+    requires { (1 ≤ rings) × (1 ≤ room) }
+    ensures own { IfOk result (λ r. AreOwnStays rings ring room places.old.items r) }
     ensures others { (c : ℕ) → c % rings ≢ ring → slice_get places.new.items c ≡ slice_get places.old.items c }
     ensures count { length places.new.items ≡ length places.old.items }
 {
     let count = places.len();
-    let chain = Vec::with_capacity(alloc, at_once)?;
+    let chain = Vec::with_capacity(alloc, AT_ONCE.min(room as usize))?;
     let touched = Vec::with_capacity(alloc, UNSETTLED)?;
     let mut own = Vec::with_capacity(alloc, count)?;
     for c in 0..count {
@@ -207,6 +201,7 @@ pub(crate) fn new_squeue<R: Resident + Drop>(
     requires leaves { (R.limits parts).leaves ≡ replicate (R.size parts) most_leaves }
     ensures serves { IfOk result (λ r. ServesPlaces R.limits r.0.given rings (R.size parts)) }
     ensures lives { IfOk result (λ r. r.0.given.quotas ≡ lives_of rings (lookers_of watched)) }
+    ensures room { IfOk result (λ r. room_of r.0.given ≡ room) }
     ensures first { IfOk result (λ r. r.0.given.first ≡ parts) }
     ensures passes { IfOk result (λ r. (length r.1.items ≡ length r.0.given.quotas + 1) × AreFresh number_of r.0.gate 0 r.1.items) }
 {

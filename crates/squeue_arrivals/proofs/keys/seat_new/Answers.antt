@@ -1,5 +1,6 @@
 use Rattle.std.proofs.Common.{◌≡◌, ◌∙◌, ◌<◌, ◌≤◌, sym, ap, length, subst, arith}
 use Rattle.placed_parts.specs.Placing.{limits_of, origin_of}
+use Rattle.squeue_state.specs.Naming.{setting_of}
 use Rattle.squeue_arrivals.specs.Keeping.{IsUnused}
 use Rattle.squeue_arrivals.specs.Keyed.{Tells}
 use Rattle.squeue_arrivals.specs.Placed.{keys_in, most_in, place_of}
@@ -12,7 +13,7 @@ open-pass-requires-clause-unused g c =
     let has = c.requires.keys.1.0 in
     let le : length (keys_in k) ≤ length (keys_in k) = omega arith in
     let lt : length (keys_in k) < most_in k = omega (arith, c.if-i-keys.false, c.len-i.ensures, has.table.few) in
-    subst (IsUnused c.args.stays.now) (sym (c.place-c.ensures ∙ ap (place_of k) c.len-i.ensures)) (has.free (length (keys_in k)) le lt)
+    subst (IsUnused (setting_of limits_of c.args.line.now.squeue.now.given) c.args.stays.now) (sym (c.place-c.ensures ∙ ap (place_of k) c.len-i.ensures)) (has.free (length (keys_in k)) le lt)
 
 pub returns-then-i-keys-clause-seated : goal.returns-then-i-keys-clause-seated
 returns-then-i-keys-clause-seated g c = λ all has.

@@ -6,6 +6,7 @@ use Rattle.squeue_arrivals.specs.Keyed.{Tells}
 use Rattle.squeue_arrivals.specs.Placed.{keys_in}
 use Rattle.squeue_arrivals.proofs.KeysKept.{few_places}
 use Rattle.squeue_arrivals.proofs.Closing.{all_closed, closing_first, closing_more}
+use Rattle.squeue_arrivals.proofs.PlacesKept.{leaves_few}
 use Rattle.squeue_arrivals.proofs.ring.close_keys.Goals as goal
 
 pub loop-i-init : goal.loop-i-init
@@ -54,7 +55,8 @@ loop-i-preserved g c =
       same_pass = e.number ∙ i.same_pass;
       asks = omega (arith, e.spent.1, i.asks);
       each = λ all has.
-          closing_more limits_of c.args.line.now.squeue.now all c.loop-i.i c.place.result c.loop-i.pass c.close_at-pass.result a b k e.closed.0 (i.each all has) c.place.ensures e.elsewhere (e.closed.1, e.closed.3) e.sent
+          closing_more limits_of c.args.line.now.squeue.now all c.loop-i.i c.place.result c.loop-i.pass c.close_at-pass.result a b k e.closed.0 e.closed.1 (i.each all has) c.place.ensures e.elsewhere e.closed.3 e.closed.4
+          (leaves_few limits_of c.args.line.now.squeue.now (Tells g.X.KeySteps.step) (origin_of c.args.line.now.squeue.now.given.first) c.close_at-pass.result b e.knows) e.sent
           e.closed.2 e.out e.closed.5 e.number;
     }
 

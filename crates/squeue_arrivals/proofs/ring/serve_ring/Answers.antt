@@ -1,8 +1,5 @@
 use Rattle.std.proofs.Common.{◌≡◌, ◌∙◌, ℕ, length, slice_get, ap, sym, subst, arith}
 use Rattle.histories.proofs.ListPlaces.{some_at}
-use Rattle.turn_gate.specs.History.{Begins}
-use Rattle.turn_gate.specs.Passes.{seen}
-use Rattle.turn_gate.proofs.Histories.{begins_more}
 use Rattle.placed_parts.specs.Placing.{limits_of, origin_of}
 use Rattle.squeue_arrivals.specs.Arriving.{HasGiven}
 use Rattle.squeue_arrivals.specs.Keeping.{AreClosed}
@@ -60,10 +57,8 @@ returns-clause-served g c =
     let most : most_in keys ≡ c.args.pool.now.places = c.serve_all-pass.ensures.ring.most ∙ c.requires.may.is_most in
     let gave = subst (λ (n : ℕ). HasGiven g.A.Arrivals.origin g.A.Arrivals.given g.A.Arrivals.is_over n (length (keys_in keys)) given.0 c.args.ring.source c.serve_all-pass.new.source c.serve_all-pass.result.1) most given.2 in
     let at = (goal.at.returns-clause-served g c).After-close_keys-pass in
-    let a = c.close_pass-pass.ensures in
-    let grows = subst (Begins (seen c.close_keys-pass.result)) (sym a.now_seen) (begins_more (seen c.close_keys-pass.result) a.found _ a.goes_on) in
     let number_is = c.serve_all-pass.ensures.ring.number ∙ (c.requires.may.its_number ∙ sym (c.close_keys-pass.ensures.number ∙ c.serve_all-pass.ensures.number)) in
     is_served_at g.X.KeySteps.begins g.X.KeySteps.step g.A.Arrivals.origin g.A.Arrivals.given g.A.Arrivals.is_over limits_of c.args.sq.now (origin_of c.args.sq.now.given.first) c.args.pool.now.places given.0 c.close_keys-pass.result
     c.close_pass-pass.result c.close_keys-pass.new.stays keys c.args.ring.source _ c.requires.begun given.1.0.table given.1.1 (closed g at) c.take_parts-parts.ensures.keys
-    (λ i part got. let h = c.take_parts-parts.ensures.states i part got in (h.0, ap (λ l. slice_get l (place_of keys i)) (sym c.into_places.ensures) ∙ h.1, h.2)) gave most c.of-last.ensures grows a.same_number number_is
+    (λ i part got. let h = c.take_parts-parts.ensures.states i part got in (h.0, ap (λ l. slice_get l (place_of keys i)) (sym c.into_places.ensures) ∙ h.1, h.2)) gave most c.of-last.ensures c.close_pass-pass.ensures number_is
     (c.serve_all-pass.ensures.ring.rings ∙ c.requires.may.its_rings)

@@ -6,7 +6,7 @@ use Rattle.squeue_arrivals.proofs.ring_squeue.deal_places.Given as goal
 abbrev pub invariant-loop-ring : goal.invariant-loop-ring
 invariant-loop-ring g l =
     record {
-      dealt : IsDealt l.count l.pool.places l.ring l.fn.places.items l.places.items l.fn.sources.items l.sources.items l.rings.items;
+      dealt : IsDealt l.count l.pool.places l.pool.room l.ring l.fn.places.items l.places.items l.fn.sources.items l.sources.items l.rings.items;
       left : length l.sources.items + l.ring ≡ l.count;
       room : l.count ≤ vec_capacity l.rings;
     }

@@ -15,5 +15,5 @@ returns-clause-many g c = ap length c.of-keyed.ensures.first ∙ (c.in_ok-produc
 
 pub returns-clause-rings : goal.returns-clause-rings
 returns-clause-rings g c =
-    subst (λ parts. AreNewRings c.args.pool.now.places parts c.args.sources.items c.in_ok-rings.rings.items) (sym c.of-keyed.ensures.first)
+    subst (λ parts. AreNewRings c.args.pool.now.places c.args.pool.now.room parts c.args.sources.items c.in_ok-rings.rings.items) (sym c.of-keyed.ensures.first)
     (c.in_ok-rings.ensures c.in_ok-producers.parts.items c.in_ok-places.ensures)

@@ -12,7 +12,7 @@ use Rattle.squeue_arrivals.specs.Watching.{HasWatched}
 use Rattle.squeue_arrivals.specs.declared.ring.RingTask.TheVariants.{Served, Watched}
 use Rattle.squeue_serve.proofs.Coming.{one_only}
 use Rattle.squeue_arrivals.proofs.RingJobs.{all_ready}
-use Rattle.squeue_arrivals.proofs.RingRun.{CameBack, Lends, are_done, came_back, end_ended, end_setting, is_it, lends, nothing_left, known_by_end}
+use Rattle.squeue_arrivals.proofs.RingRun.{CameBack, Lends, are_done, came_back, end_ended, end_setting, is_it, known_by_end, known_own, lends, nothing_left}
 use Rattle.squeue_arrivals.proofs.RingTasks.{has_watched, none_long}
 use Rattle.squeue_arrivals.proofs.Looking.{looked_whole}
 use Rattle.histories.proofs.ListPlaces.{some_at}
@@ -122,7 +122,8 @@ returns-clause-seen g c = λ k d is.
     let known = back.passes k d there in
     let le : k ≤ c.len-count.result - 1 =
     omega (arith, slice_get_within (tasks_in c.run_rings.new.jobs) k (Served d) there, length-map c.run_rings.new.jobs (λ j. j.task), back.many) in
-    (known.1, (known_by_end _ c.args.squeue c.end_last.new.squeues.all.items l.single some.1 some.2 back.ends k d.pass.value le known.0).0)
+    let knows = known_by_end _ c.args.squeue c.end_last.new.squeues.all.items l.single some.1 some.2 back.ends k d.pass.value le known.0 in
+    known_own k _ d.pass.value known.1.is_number known.1.pass.2 knows
 
 pub returns-clause-watched : goal.returns-clause-watched
 returns-clause-watched g c = λ k w is.

@@ -6,7 +6,7 @@ use Rattle.squeue_streams.specs.Taking.{most_feeds, most_leaves}
 use Rattle.squeue_arrivals.specs.Keyed.{AreBegun, first_of, work_of}
 use Rattle.ring_groups.specs.Groups.{AllBecameFrom}
 use Rattle.squeue_state.specs.Naming.{setting_of}
-use Rattle.squeue_arrivals.specs.Seating.{ServesPlaces, lookers_of}
+use Rattle.squeue_arrivals.specs.Seating.{ServesPlaces, lookers_of, room_of}
 use Rattle.squeue_arrivals.specs.Arriving.{IsServedAt, IsServedIn}
 use Rattle.squeue_arrivals.specs.Tasks.{AreDone, AreNewTasks, tasks_for}
 use Rattle.squeue_arrivals.specs.Watching.{HasWatched, SawLast}
@@ -47,11 +47,12 @@ run_to_end-jobs-requires-clause-tasks g c κs within =
     let passes : c.len-count.result + lookers ≡ length given.quotas = sym (ap length made.lives ∙ lives_long c.len-count.result lookers) in
     let first = ap (λ r. first_of (origin_of r)) made.first ∙ ap first_of c.in_ok-parts.ensures.origin in
     let counted : c.len-count.result ≡ length c.args.sources.items = omega (arith, c.len-count.ensures, c.args.sources.ok.0) in
-    let tasks = are_tasks {Z = g.row.V-Seen.Denot} c.len-count.result lookers c.args.pool.now.places (first_of c.in_ok-keyed.keyed) c.args.sources.items c.in_ok-keyed.rings.items counted c.in_ok-keyed.ensures.rings in
-    let here = subst (λ parts. AreNewTasks {Z = g.row.V-Seen.Denot} c.len-count.result (c.len-count.result + lookers) c.args.pool.now.places parts (tasks_for lookers c.in_ok-keyed.rings.items)) (sym first) tasks in
-    let many = subst (λ (n : ℕ). AreNewTasks {Z = g.row.V-Seen.Denot} c.len-count.result n c.args.pool.now.places (first_of (origin_of given.first)) (tasks_for lookers c.in_ok-keyed.rings.items)) passes here in
-    let rings = subst (λ (n : ℕ). AreNewTasks {Z = g.row.V-Seen.Denot} n (length given.quotas) c.args.pool.now.places (first_of (origin_of given.first)) (tasks_for lookers c.in_ok-keyed.rings.items)) (sym made.serves.its_rings) many in
-    subst (AreNewTasks given.rings (length given.quotas) c.args.pool.now.places (first_of (origin_of given.first))) (sym (c.in_ok-jobs.ensures.tasks ∙ c.in_ok-tasks.ensures)) rings
+    let tasks = are_tasks {Z = g.row.V-Seen.Denot} c.len-count.result lookers c.args.pool.now.places c.args.pool.now.room (first_of c.in_ok-keyed.keyed) c.args.sources.items c.in_ok-keyed.rings.items counted c.in_ok-keyed.ensures.rings in
+    let here = subst (λ parts. AreNewTasks {Z = g.row.V-Seen.Denot} c.len-count.result (c.len-count.result + lookers) c.args.pool.now.places c.args.pool.now.room parts (tasks_for lookers c.in_ok-keyed.rings.items)) (sym first) tasks in
+    let many = subst (λ (n : ℕ). AreNewTasks {Z = g.row.V-Seen.Denot} c.len-count.result n c.args.pool.now.places c.args.pool.now.room (first_of (origin_of given.first)) (tasks_for lookers c.in_ok-keyed.rings.items)) passes here in
+    let rings = subst (λ (n : ℕ). AreNewTasks {Z = g.row.V-Seen.Denot} n (length given.quotas) c.args.pool.now.places c.args.pool.now.room (first_of (origin_of given.first)) (tasks_for lookers c.in_ok-keyed.rings.items)) (sym made.serves.its_rings) many in
+    let room = subst (λ (n : ℕ). AreNewTasks {Z = g.row.V-Seen.Denot} given.rings (length given.quotas) c.args.pool.now.places n (first_of (origin_of given.first)) (tasks_for lookers c.in_ok-keyed.rings.items)) (sym made.room) rings in
+    subst (AreNewTasks given.rings (length given.quotas) c.args.pool.now.places (room_of given) (first_of (origin_of given.first))) (sym (c.in_ok-jobs.ensures.tasks ∙ c.in_ok-tasks.ensures)) room
 
 few : (b : Bool) → lookers_of b ≤ 1
 few true = omega arith
@@ -65,7 +66,7 @@ gather-served-requires-clause-room g c =
     let jobs = length-map c.in_ok-jobs.jobs.items (λ j. j.task) in
     let now = length-map c.run_to_end-jobs.result.0.items (λ j. j.task) in
     let long = tasks_long g.row.V-Seen.Denot lookers rings in
-    let many = as_many c.args.pool.now.places (first_of c.in_ok-keyed.keyed) c.args.sources.items rings c.in_ok-keyed.ensures.rings in
+    let many = as_many c.args.pool.now.places c.args.pool.now.room (first_of c.in_ok-keyed.keyed) c.args.sources.items rings c.in_ok-keyed.ensures.rings in
     (c.in_ok-room.ensures.items, omega (arith, c.in_ok-room.ensures.exact, c.len.ensures, c.args.sources.ok.0, jobs, now, c.run_to_end-jobs.ensures.done.many, ap length tasks, long, few c.args.watched, many))
 
 -- what all tasks have done
@@ -96,12 +97,12 @@ returns-in-Ok-new_squeue-clause-served g c =
     let news = tasks_in c.run_to_end-jobs.result.0.items in
     let counted : c.len-count.result ≡ length c.args.sources.items = omega (arith, c.len-count.ensures, c.args.sources.ok.0) in
     let rings : end.setting.rings ≡ length c.in_ok-keyed.rings.items = ap (λ s. s.rings) c.run_to_end-jobs.ensures.setting ∙ (c.in-Ok-new_squeue.ensures.serves.its_rings
-    ∙ (counted ∙ sym (as_many c.args.pool.now.places (first_of c.in_ok-keyed.keyed) c.args.sources.items c.in_ok-keyed.rings.items c.in_ok-keyed.ensures.rings))) in
+    ∙ (counted ∙ sym (as_many c.args.pool.now.places c.args.pool.now.room (first_of c.in_ok-keyed.keyed) c.args.sources.items c.in_ok-keyed.rings.items c.in_ok-keyed.ensures.rings))) in
     let all = all_ended_from P L Q (lookers_of c.args.watched) c.in_ok-keyed.rings.items news 0 (as_long g at) (done g at)
     (λ k e d lt is h. let seen = c.run_to_end-jobs.ensures.seen k d is in
     let same : 0 + k ≡ k = omega arith in
     subst (λ n. Q n e d) (sym same) (served_in g.X.KeySteps.begins g.X.KeySteps.step g.A.Arrivals.origin g.A.Arrivals.given g.A.Arrivals.is_over c.args.steps c.args.pool.now.places setting end k e d
-    c.run_to_end-jobs.ensures.ended c.run_to_end-jobs.ensures.setting (omega (arith, lt, rings)) seen.0 seen.1 h)) in
+    c.run_to_end-jobs.ensures.ended c.run_to_end-jobs.ensures.setting (omega (arith, lt, rings)) seen.0 seen.1 seen.2 h)) in
     let here = subst (λ es. AllBecameFrom Q 0 es c.gather-served.result.0.items) c.in_ok-keyed.ensures.rings.sources_are (subst (AllBecameFrom Q 0 _) (sym c.gather-served.ensures.served) all) in
     subst (λ e. AllBecameFrom (IsServedIn g.X.KeySteps.begins g.X.KeySteps.step g.A.Arrivals.origin g.A.Arrivals.given g.A.Arrivals.is_over c.args.steps c.args.pool.now.places e) 0 c.args.sources.items c.gather-served.result.0.items) (sym c.watched_end.ensures.end) here
 
@@ -111,7 +112,7 @@ returns-in-Ok-new_squeue-clause-watched g c =
     let counted : c.len-count.result ≡ length c.args.sources.items = omega (arith, c.len-count.ensures, c.args.sources.ok.0) in
     let end = c.watched_end.ensures.end in
     let rings = ap (λ e. e.setting.rings) end ∙ (ap (λ s. s.rings) c.run_to_end-jobs.ensures.setting ∙ (c.in-Ok-new_squeue.ensures.serves.its_rings
-    ∙ (counted ∙ sym (as_many c.args.pool.now.places (first_of c.in_ok-keyed.keyed) c.args.sources.items c.in_ok-keyed.rings.items c.in_ok-keyed.ensures.rings)))) in
+    ∙ (counted ∙ sym (as_many c.args.pool.now.places c.args.pool.now.room (first_of c.in_ok-keyed.keyed) c.args.sources.items c.in_ok-keyed.rings.items c.in_ok-keyed.ensures.rings)))) in
     let work = ap work_of (ap origin_of c.in-Ok-new_squeue.ensures.first ∙ c.in_ok-parts.ensures.origin) ∙ c.in_ok-keyed.ensures.steps in
     was_watched g.X.KeySteps.begins g.X.KeySteps.step c.args.steps (g.V.Watches.says c.args.watcher.now) (g.V.Watches.many c.args.watcher.now) c.args.watched _ _ c.in_ok-keyed.rings.items (tasks_in c.run_to_end-jobs.result.0.items)
     (as_long g at) (done g at) c.watched_end.result rings

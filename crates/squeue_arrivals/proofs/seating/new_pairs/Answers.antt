@@ -1,6 +1,7 @@
-use Rattle.std.proofs.Common.{◌∷◌, [], sym, subst, arith, rules}
+use Rattle.std.proofs.Common.{◌≤◌, ◌∷◌, [], sym, subst, arith, rules}
 use Rattle.std.specs.Prelude.{All}
 use Rattle.std.proofs.lemmas.List.Elements.{All-append, All-cons, All-nil}
+use Rattle.rtrb.specs.Ring.{known_free}
 use Rattle.squeue_streams.specs.declared.streams.Stream.{Stream}
 use Rattle.squeue_streams.specs.Taking.{state_of}
 use Rattle.squeue_arrivals.proofs.Seated.{new_pair, no_pairs, pairs_more}
@@ -18,10 +19,11 @@ loop-c-init g c =
 pub loop-c-preserved : goal.loop-c-preserved
 loop-c-preserved g c =
     let i = c.loop-c.invariant in
+    let room : 1 ≤ known_free c.in_ok-producer.producer = omega (arith, c.in_ok-producer.ensures.producer.1) in
     record {
       pairs = rw (c.push_reserved.ensures.items, c.push_reserved-in-loop-c.ensures.items)
           (pairs_more c.loop-c._c c.loop-c.producers.items c.loop-c.parts.items _ _ i.pairs
-          (new_pair _ _ _ c.in_ok-producer.ensures.pair c.in_ok-producer.ensures.producer.0 c.in_ok-producer.ensures.consumer.0 c.of.ensures.input c.of.ensures.count));
+          (new_pair _ _ _ c.in_ok-producer.ensures.pair c.in_ok-producer.ensures.producer.0 room c.in_ok-producer.ensures.consumer.0 c.of.ensures.input c.of.ensures.count));
       begun =
           (let Begun : Stream g.row.X-Item.Denot g.row.X-State.Denot → Type 0 = λ s. g.X.KeySteps.begins c.args.steps.now (state_of s) in
           subst (All Begun) (sym c.push_reserved-in-loop-c.ensures.items)

@@ -51,6 +51,11 @@ returns-clause-lives g c =
     let is = given g (goal.at.returns-clause-lives g c).After-deref in
     IfOk-weaker c.make_bounded.result _ _ (λ made m. m.its_quotas ∙ is) c.make_bounded.ensures.given
 
+pub returns-clause-room : goal.returns-clause-room
+returns-clause-room g c =
+    IfOk-weaker c.make_bounded.result _ _
+    (λ made m. (let q = ap length m.its_quotas in let n = length-map {B = ℕ × ℕ} c.deref.result.now (λ l. (l.feeds, l.asks)) in omega (arith, q, n, m.its_room))) c.make_bounded.ensures.given
+
 pub returns-clause-first : goal.returns-clause-first
 returns-clause-first g c = IfOk-weaker c.make_bounded.result _ _ (λ made m. m.its_first) c.make_bounded.ensures.given
 

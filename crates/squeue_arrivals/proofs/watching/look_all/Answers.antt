@@ -1,4 +1,4 @@
-use Rattle.std.proofs.Common.{◌-◌, ◌∙◌, refl, ap, sym, subst, arith}
+use Rattle.std.proofs.Common.{◌∙◌, refl, ap, sym, subst, arith}
 use Rattle.turn_gate.specs.Passes.{seen}
 use Rattle.perimeter_core.specs.Legal.{asks_by}
 use Rattle.placed_parts.specs.Placing.{limits_of, origin_of, parts_of}
