@@ -1,10 +1,13 @@
 -- What words spell, word by word.
-use Rattle.std.proofs.Common.{◌≡◌, ℕ, ◌+◌, ◌<◌, List, [], ◌∷◌, ◌++◌, length, map, replicate, take, refl, ap, sym, ◌∙◌, subst, append_assoc, append-nil, slice_index_or}
+use Rattle.std.proofs.Common.{◌≡◌, ℕ, ◌+◌, ◌-◌, ◌^◌, ◌/◌, ◌%◌, ◌<◌, false, List, [], ◌∷◌, ◌++◌, length, map, replicate, take, refl, ap, sym, ◌∙◌, subst, append_assoc, append-nil, slice_index_or}
+use Rattle.std.specs.Fmt.{format_spec, padded_integral, radix_digits}
 use Rattle.std.specs.List.{concat}
+use Rattle.std.proofs.lemmas.Fmt.{hex_byte}
+use Rattle.std.proofs.lemmas.Grind.{flat_map-append}
 use Rattle.std.proofs.lemmas.List.{map-append, replicate_more, take_more}
 use Rattle.std.proofs.lemmas.List.Folds.{concat-append}
 use Rattle.case_rows.specs.Rows.{Line}
-use Rattle.case_rows.specs.Spelling.{AllSpell, Spells}
+use Rattle.case_rows.specs.Spelling.{AllSpell, Spells, hex, hex_digit}
 
 -- once more
 pub once_more : (n : ℕ) (old bytes out more : List ℕ) → out ≡ old ++ concat (replicate n bytes) → more ≡ out ++ bytes → more ≡ old ++ concat (replicate (n + 1) bytes)
@@ -24,3 +27,13 @@ word_next ws i d bs one lt all s =
     let words : map (λ (word : Line). word.now) (take (i + 1) ws) ≡ map (λ (word : Line). word.now) (take i ws) ++ (slice_index_or ws i d).now ∷ [] =
     ap (map (λ (word : Line). word.now)) (take_more ws i d lt) ∙ map-append (λ (word : Line). word.now) (take i ws) (slice_index_or ws i d ∷ []) in
     subst (λ (l : List (List ℕ)). AllSpell l (bs ++ one)) (sym words) (all_more (map (λ (word : Line). word.now) (take i ws)) (slice_index_or ws i d).now bs one all s)
+
+-- one byte more is written
+pub byte_next : (bytes : List ℕ) (i : ℕ) (d : ℕ) (old out new : List ℕ) → i < length bytes → slice_index_or bytes i d < 256 → out ≡ old ++ hex (take i bytes)
+    → new ≡ out ++ padded_integral (format_spec 32 0 4 2 (2 ^ 64 - 1)) false [] (radix_digits 16 false (slice_index_or bytes i d)) → new ≡ old ++ hex (take (i + 1) bytes)
+byte_next bytes i d old out new lt small had adds =
+    let b : ℕ = slice_index_or bytes i d in
+    let two : ℕ → List ℕ = λ n. hex_digit (n / 16) ∷ hex_digit (n % 16) ∷ [] in
+    let more : hex (take (i + 1) bytes) ≡ hex (take i bytes) ++ two b =
+    ap hex (take_more bytes i d lt) ∙ (flat_map-append two (take i bytes) (b ∷ []) ∙ ap (λ l. hex (take i bytes) ++ l) (append-nil (two b))) in
+    adds ∙ (ap (λ l. out ++ l) (hex_byte false b small) ∙ (ap (λ l. l ++ two b) had ∙ (append_assoc old (hex (take i bytes)) (two b) ∙ ap (λ l. old ++ l) (sym more))))

@@ -2,6 +2,7 @@
 
 ghost use Rattle.std.specs.Prelude.{◌≡◌, ◌<◌, ℕ, List, ◌++◌, map, replicate, IfOk, OnOk};
 ghost use Rattle.std.specs.List.{concat};
+ghost use Rattle.std.specs.String.{string_bytes};
 ghost use Rattle.case_rows.specs.Spelling.{hex, hex_digit, AllSpell, LineSpells, Spells};
 
 use crate::wrong::Wrong;
@@ -88,7 +89,9 @@ pub fn spelled(alloc: Global, line: &str) -> Result<Vec<u8>, Wrong>
 }
 
 /// Adds bytes to a text, in hexadecimal.
-pub fn add_text(out: &mut String, bytes: &[u8]) -> Result<(), AllocError> {
+pub fn add_text(out: &mut String, bytes: &[u8]) -> Result<(), AllocError>
+    ensures { OnOk result (string_bytes out.new ≡ string_bytes out.old ++ hex bytes.now) }
+{
     for byte in bytes {
         write!(out, "{byte:02x}")?;
     }

@@ -19,7 +19,7 @@
 use crate::bytes::{add_bytes, spelled};
 use crate::fault::RowFault;
 use crate::told::told_at;
-use crate::words::RowWords;
+use crate::words::{RowWords, number_of};
 use crate::wrong::Wrong;
 use std::alloc::Global;
 
@@ -61,8 +61,8 @@ pub fn bytes_of(alloc: Global, lines: &[&str]) -> Result<Vec<u8>, RowFault> {
 
 /// The seconds of a time, and the microseconds above them.
 fn time(word: &str) -> Result<(u32, u32), Wrong> {
-    let at = word.parse::<u64>().map_err(|_| Wrong::Word)?;
-    let seconds = u32::try_from(at / 1_000_000).map_err(|_| Wrong::Word)?;
+    let at = number_of(word).ok_or(Wrong::Word)?;
+    let seconds = u32::try_from(at / 1_000_000).ok().ok_or(Wrong::Word)?;
     Ok((seconds, (at % 1_000_000) as u32))
 }
 
@@ -73,7 +73,7 @@ fn two(text: &str, separator: char) -> Result<(&str, &str), Wrong> {
 
 /// A byte of an address.
 fn byte(text: &str) -> Result<u8, Wrong> {
-    text.parse::<u8>().map_err(|_| Wrong::Word)
+    text.parse::<u8>().ok().ok_or(Wrong::Word)
 }
 
 /// An address and a port, as in `10.0.0.1:4000`.
@@ -81,7 +81,7 @@ fn address_of(text: &str) -> Result<Address, Wrong> {
     let (ip, port) = two(text, ':')?;
     Ok(Address {
         ip: ip_of(ip)?,
-        port: port.parse::<u16>().map_err(|_| Wrong::Word)?,
+        port: port.parse::<u16>().ok().ok_or(Wrong::Word)?,
     })
 }
 
@@ -320,5 +320,5 @@ impl Maker {
 /// The sum of three lengths, below 2^16.
 fn length_of(first: usize, second: usize, third: usize) -> Result<u16, Wrong> {
     let all = first.saturating_add(second).saturating_add(third);
-    u16::try_from(all).map_err(|_| Wrong::Word)
+    u16::try_from(all).ok().ok_or(Wrong::Word)
 }

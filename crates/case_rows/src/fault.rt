@@ -1,5 +1,10 @@
 //! Why a row fails.
 
+ghost use Rattle.std.specs.Prelude.{◌≡◌, IfOk};
+ghost use Rattle.std.specs.List.{flat_map};
+ghost use Rattle.std.specs.String.{string_bytes};
+ghost use Rattle.case_rows.specs.Faults.{Tells};
+
 use std::alloc::{AllocError, AllocFailed, Global};
 use std::fmt;
 
@@ -14,7 +19,9 @@ pub enum RowFault {
 
 impl RowFault {
     /// The fault whose line is these pieces, one behind another.
-    pub fn told(alloc: Global, pieces: &[&str]) -> RowFault {
+    pub fn told(alloc: Global, pieces: &[&str]) -> RowFault
+        ensures { Tells result (flat_map (λ piece. piece.now) pieces.now) }
+    {
         match joined(alloc, pieces) {
             Ok(line) => RowFault::Told(line),
             Err(_) => RowFault::NoMemory,
@@ -23,7 +30,9 @@ impl RowFault {
 }
 
 /// The pieces, one behind another.
-fn joined(alloc: Global, pieces: &[&str]) -> Result<String, AllocError> {
+fn joined(alloc: Global, pieces: &[&str]) -> Result<String, AllocError>
+    ensures { IfOk result (λ line. string_bytes line ≡ flat_map (λ piece. piece.now) pieces.now) }
+{
     let mut line = String::new(alloc);
     for piece in pieces {
         line.push_str(piece)?;

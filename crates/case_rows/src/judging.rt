@@ -207,7 +207,7 @@ fn each_front<P: Fn(Global, &[String], &mut MemSource, &mut MemSink, &mut MemSin
     requires gives { Gives row.now.fields.items given.now }
     ensures { OnOk result (PassesFronts P.Fn program.now row.now.fields.items) }
 {
-    let (first, end) = fronts_of(alloc, row)?;
+    let (first, end) = row.pair(alloc, "fronts")?;
     expect_some(alloc, first >= end)?;
     for len in first..end {
         run_front(program, alloc, row, given, len)?;
@@ -229,16 +229,6 @@ fn run_front<P: Fn(Global, &[String], &mut MemSource, &mut MemSink, &mut MemSink
     let input = front(&given.input, len as usize);
     let judged = judge_one(program, alloc, row, given, input, usize::MAX);
     in_numbered(alloc, "", len, " bytes", judged)
-}
-
-/// The least length of the row's fronts, and the first that is none.
-fn fronts_of(alloc: Global, row: &Row<'_>) -> Result<(u64, u64), RowFault>
-    ensures { IfOk result (λ r. AreNumbers (lines_named row.now.fields.items (codes "fronts")) (r.0 ∷ r.1 ∷ [])) }
-{
-    match row.numbers(alloc, "fronts")?.as_slice() {
-        [first, end] => Ok((*first, *end)),
-        _ => Err(RowFault::told(alloc, &["fronts isn't two numbers"])),
-    }
 }
 
 /// A run with each read failing.

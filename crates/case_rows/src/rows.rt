@@ -1,6 +1,6 @@
 //! A row and its fields. Both are parts of the text that they were read from.
 
-ghost use Rattle.std.specs.Prelude.{◌≡◌, [], is_some, map, option_map, true, unwrap_or, IfOk, IfSome, OnOk};
+ghost use Rattle.std.specs.Prelude.{◌≡◌, ◌∷◌, [], is_some, map, option_map, true, unwrap_or, IfOk, IfSome, OnOk};
 ghost use Rattle.std.specs.List.{list_all};
 ghost use Rattle.std.specs.Result.{result_ok};
 ghost use Rattle.std.specs.String.{string_bytes};
@@ -94,6 +94,16 @@ impl<'a> Row<'a> {
         match numbers_in(alloc, &words)? {
             Some(numbers) => Ok(numbers),
             None => Err(RowFault::told(alloc, &[name, " isn't made of numbers"])),
+        }
+    }
+
+    /// The two numbers of a field. An error where it isn't made of two.
+    pub fn pair(&self, alloc: Global, name: &str) -> Result<(u64, u64), RowFault>
+        ensures { IfOk result (λ r. AreNumbers (lines_named self.now.fields.items name.now) (r.0 ∷ r.1 ∷ [])) }
+    {
+        match self.numbers(alloc, name)?.as_slice() {
+            [first, second] => Ok((*first, *second)),
+            _ => Err(RowFault::told(alloc, &[name, " isn't two numbers"])),
         }
     }
 

@@ -1,15 +1,16 @@
 //! What a row wants of what came.
 
-ghost use Rattle.std.specs.Prelude.{◌≡◌, ℕ, ◌-◌, ◌==◌, ◌<◌, ◌≤◌, slice_index_or, drop, length, map, take, IfOk, OnOk};
-ghost use Rattle.std.specs.List.{AllByRecursion, after_first, before_first, count_by};
+ghost use Rattle.std.specs.Prelude.{◌≡◌, ℕ, ◌-◌, ◌<◌, ◌≤◌, ◌||◌, ◌∷◌, [], not, codes, unwrap_or, slice_index_or, drop, length, map, take, IfOk, IfSome, OnOk};
+ghost use Rattle.std.specs.List.{AllByRecursion, count_by, position_or_len, sum_by};
 ghost use Rattle.std.specs.Str.{bytes_eq};
 ghost use Rattle.case_rows.specs.Runs.{Wants};
-ghost use Rattle.case_rows.specs.Wanted.{check_of, says_of_lines, says_of_numbers, spelled, HasSum, IsOneOf, Lines, SaysNoMore, SaysOfLines, SaysOfSum, StandsAmong, StandsAsOften, WantsOut};
+ghost use Rattle.case_rows.specs.Wanted.{check_of, marks_in, marks_told, says_of_lines, says_of_numbers, spelled, tells_marks, told_in, HasMarks, HasSum, IsOneOf, Lines, SaysNoMore, SaysOfLines, SaysOfNumbers, StandsAmong, StandsAsOften, WantsOut};
 
 use crate::comparing::{expect_lines, expect_number};
 use crate::fault::RowFault;
 use crate::program::Came;
 use crate::rows::Row;
+use crate::words::{halves, number_of};
 use std::alloc::{AllocError, Global};
 
 /// What came is what the row wants; of its `out` so many bytes.
@@ -57,11 +58,12 @@ fn expect_parts(alloc: Global, row: &Row<'_>, out: &[u8]) -> Result<bool, RowFau
 
 /// What the row says of the output in numbers. Answers whether it does.
 fn expect_numbers(alloc: Global, row: &Row<'_>, out: &[u8]) -> Result<bool, RowFault>
-    ensures says { OnOk result (SaysOfSum row.now.fields.items out.now) }
+    ensures says { OnOk result (SaysOfNumbers row.now.fields.items out.now) }
     ensures does { IfOk result (λ b. b ≡ says_of_numbers row.now.fields.items) }
 {
     if row.has("marks") {
-        expect_marks(alloc, &row.numbers(alloc, "marks")?, out)?;
+        let (least, most) = row.pair(alloc, "marks")?;
+        expect_marks(alloc, least, most, out)?;
     }
     if row.has("sum") {
         expect_sum(alloc, row.text(alloc, "sum", "")?, out)?;
@@ -200,21 +202,28 @@ fn times_among(wanted: &str, all: &[&str]) -> usize
     times
 }
 
-/// What stands before the first blank, or all; and what stands behind it.
-fn halves(line: &str) -> (&str, &str)
-    ensures { (result.0.now ≡ before_first (λ b. b == 32) line.now) × (result.1.now ≡ after_first (λ b. b == 32) line.now) }
+/// So many lines are marks, as many as is told of. They are at least the first number, and at most the second.
+fn expect_marks(alloc: Global, least: u64, most: u64, out: &[u8]) -> Result<(), RowFault>
+    ensures { OnOk result (HasMarks least most out.now) }
 {
-    line.split_once(' ').unwrap_or((line, ""))
+    let Ok(text) = str::from_utf8(out) else {
+        return Err(RowFault::told(alloc, &["out isn't text"]));
+    };
+    let all: Vec<&str> = text.lines().collect(alloc)?;
+    expect_marks_among(alloc, least, most, &all)
 }
 
-/// So many lines are marks, as many as is told of. They are at least the first number, and at most the second.
-fn expect_marks(alloc: Global, limits: &[u64], out: &[u8]) -> Result<(), RowFault> {
-    let ([least, most], Ok(text)) = (limits, str::from_utf8(out)) else {
-        return Err(RowFault::told(alloc, &["marks isn't two numbers, or out isn't text"]));
+/// So many of these lines are marks.
+fn expect_marks_among(alloc: Global, least: u64, most: u64, all: &[&str]) -> Result<(), RowFault>
+    ensures told { OnOk result (told_in (map (λ line. line.now) all.now) ≡ marks_in (map (λ line. line.now) all.now)) }
+    ensures limits { OnOk result ((least ≤ marks_in (map (λ line. line.now) all.now)) × (marks_in (map (λ line. line.now) all.now) ≤ most)) }
+{
+    let Some(told) = told_in(all) else {
+        return Err(RowFault::told(alloc, &["more marks are told than a number says"]));
     };
-    let (told, found) = marks_in(text);
+    let found = marks_in(all.split_at(first_told(all)).1);
     expect_number(alloc, "how many marks are told", found, told)?;
-    if found < *least || found > *most {
+    if found < least || found > most {
         return Err(RowFault::Told(format!(in alloc;
             "marks: wanted {least} to {most}, got {found}"
         )?));
@@ -222,25 +231,56 @@ fn expect_marks(alloc: Global, limits: &[u64], out: &[u8]) -> Result<(), RowFaul
     Ok(())
 }
 
-/// How many marks a text tells of, and how many lines are marks: those behind a line `squeue Q marks N`, of which there are N, up to
-/// the next such line or the last line.
-fn marks_in(text: &str) -> (u64, u64) {
+/// How many marks these lines tell of, if that is a number.
+fn told_in(all: &[&str]) -> Option<u64>
+    ensures { IfSome result (λ told. told ≡ sum_by (λ line. unwrap_or (marks_told line.now) 0) all.now) }
+{
     let mut told = 0u64;
-    let mut found = 0u64;
-    for line in text.lines() {
-        if let Some(count) = marks_of(line) {
-            told = told.saturating_add(count);
-        } else if told > 0 && line != "done" {
-            found = found.saturating_add(1);
+    for line in all {
+        told = told.checked_add(marks_of(line).unwrap_or(0))?;
+    }
+    Some(told)
+}
+
+/// How many lines stand before the first that tells of marks.
+fn first_told(all: &[&str]) -> usize
+    ensures value { result ≡ position_or_len (λ line. tells_marks line.now) all.now }
+    ensures bound { result ≤ length all.now }
+{
+    let mut passed = 0;
+    for line in all {
+        if marks_of(line).is_some() {
+            return passed;
+        }
+        passed += 1;
+    }
+    passed
+}
+
+/// How many of these lines are marks: those that tell of none, but for `done`.
+fn marks_in(lines: &[&str]) -> u64
+    ensures { result ≡ count_by (λ line. not (tells_marks line.now || bytes_eq line.now (codes "done"))) lines.now }
+{
+    let mut found = 0;
+    for line in lines {
+        if marks_of(line).is_none() && *line != "done" {
+            found += 1;
         }
     }
-    (told, found)
+    found
 }
 
 /// How many marks a line tells of.
-fn marks_of(line: &str) -> Option<u64> {
-    let (_, count) = line.strip_prefix("squeue ")?.split_once(" marks ")?;
-    count.parse::<u64>().ok()
+fn marks_of(line: &str) -> Option<u64>
+    ensures { result ≡ marks_told line.now }
+{
+    let (squeue, rest) = halves(line);
+    let (marks, count) = halves(halves(rest).1);
+    if squeue == "squeue" && marks == "marks" {
+        number_of(count)
+    } else {
+        None
+    }
 }
 
 /// The output's length and check value are these.

@@ -1,5 +1,8 @@
 //! Why a row can't be run.
 
+ghost use Rattle.std.specs.Prelude.{◌≡◌};
+ghost use Rattle.case_rows.specs.Faults.{text_of};
+
 use std::alloc::{AllocError, AllocFailed};
 use std::fmt;
 
@@ -14,13 +17,22 @@ pub enum Wrong {
     Call,
 }
 
-impl fmt::Display for Wrong {
-    fn fmt<W: fmt::Write>(&self, f: &mut fmt::Formatter<W>) -> fmt::Result {
-        f.write_str(match self {
+impl Wrong {
+    /// What is said of it.
+    pub(crate) fn text(self) -> &'static str
+        ensures { result.now ≡ text_of self }
+    {
+        match self {
             Wrong::Memory => "out of memory",
             Wrong::Word => "a word isn't understood",
             Wrong::Call => "this may not be done here",
-        })
+        }
+    }
+}
+
+impl fmt::Display for Wrong {
+    fn fmt<W: fmt::Write>(&self, f: &mut fmt::Formatter<W>) -> fmt::Result {
+        f.write_str(self.text())
     }
 }
 
