@@ -1,5 +1,6 @@
 pub mod OneConnection
 pub mod Witness
+pub mod OneArrival
 pub mod OneCall
 pub mod OneClose
 pub mod OneKey

@@ -1,6 +1,7 @@
 pub mod OneSqueue
 pub mod TwoSqueues
 pub mod FiveSegments
+pub mod OneArrival
 pub mod OneCall
 pub mod OneClose
 pub mod OneKey

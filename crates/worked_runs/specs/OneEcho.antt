@@ -6,9 +6,13 @@ use Rattle.segment_codec.specs.ControlBits.{ack, fin, psh, syn}
 use Rattle.segment_codec.specs.PlainSegments.{plain}
 use Rattle.segment_codec.specs.declared.packet.Reply.{Reply}
 use Rattle.turn_gate.specs.declared.pass.Pass.{Pass}
-use Rattle.perimeter_core.specs.History.{Element}
+use Rattle.perimeter_core.specs.declared.entries.Entry.TheVariants.{Feed, Ask}
+use Rattle.perimeter_core.specs.declared.marks.SynchAct.TheVariants as Done
+use Rattle.perimeter_core.specs.declared.marks.Mark.TheVariants as On
+use Rattle.perimeter_core.specs.History.{Element, Setting, plain as marked}
 use Rattle.perimeter_core.specs.declared.known.Known.{Known}
 use Rattle.histories.specs.declared.mode.Mode.TheVariants as Mode'
+use Rattle.histories.specs.Endings.{Ending}
 use Rattle.live_server.specs.Acts.{datagram_of}
 use Rattle.live_server.specs.Frames.{frame_of}
 use Rattle.live_server.specs.Services.{plain_ports}
@@ -17,10 +21,9 @@ use Rattle.live_rings.specs.declared.ending.Ends.{Ends}
 use Rattle.live_rings.specs.declared.ending.EndedRing.{EndedRing}
 use Rattle.live_rings.specs.declared.words.Layout.{Layout}
 
--- one ring of one squeue; the server is 10.9.0.2
+-- one squeue; the server is 10.9.0.2
 abbrev pub layout : Layout
 layout = record {
-  rings = 1;
   squeues = 1;
   mode = Mode'.Process;
   budget = 64;
@@ -86,3 +89,21 @@ before = record { reader = input; sink = [] }
 
 abbrev pub after : Known (Pass Element) → EndedRing (List ℕ) (List ℕ)
 after pass = record { reader = []; sink = output; fault = None; lost = false; pass = pass }
+
+-- The ring puts the connection's part in, feeds it its beginning and the three frames that it hears, and takes it out
+abbrev pub setting : Setting
+setting = record {
+  rings = 1;
+  quotas = (4, 2) ∷ (0, 0) ∷ [];
+  starts = false ∷ [];
+  limits = record { feeds = 4 ∷ []; leaves = 1 ∷ []; calls = [] };
+}
+
+abbrev pub history : List Element
+history =
+    marked (On.Claim 0 (Ask 0 ∷ [])) ∷ marked (On.Leave 0 0 (Done.In 0))
+    ∷ marked (On.Claim 0 (Feed 0 0 ∷ Feed 0 1 ∷ Feed 0 2 ∷ Feed 0 3 ∷ [])) ∷ marked (On.Leave 0 0 Done.None)
+    ∷ marked (On.Claim 0 (Ask 0 ∷ [])) ∷ marked (On.Leave 0 0 (Done.Out 0)) ∷ marked (On.Close 0) ∷ marked (On.Close 1) ∷ []
+
+abbrev pub ending : Ending
+ending = record { number = 0; setting = setting; history = history }

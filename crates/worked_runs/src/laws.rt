@@ -1,6 +1,6 @@
 //! What is written out was served, and what was done was all that was asked.
 
-ghost use Rattle.std.specs.Prelude.{◌≡◌, ◌+◌, ◌∷◌, true, false, None, Some, [], sum, sum_by};
+ghost use Rattle.std.specs.Prelude.{◌≡◌, ℕ, ◌+◌, ◌∷◌, true, false, None, Some, [], sum, sum_by};
 ghost use Rattle.std.proofs.Common.{Global};
 ghost use Rattle.rtrb.specs.declared.AnyItems.{AnyItems};
 ghost use Rattle.rtrb.specs.declared.consumer.Consumer.{Consumer};
@@ -25,6 +25,10 @@ ghost use Rattle.squeue_pool.specs.declared.served.ServedParts.{ServedParts};
 ghost use Rattle.histories.specs.Keeping.{KeepsPace};
 ghost use Rattle.moving_bank.specs.Settling.{statements_of};
 ghost use Rattle.squeue_state.specs.Naming.{Named};
+ghost use Rattle.squeue_streams.specs.declared.streams.Stream.{Stream};
+ghost use Rattle.squeue_arrivals.specs.Arriving.{IsServedIn};
+ghost use Rattle.squeue_arrivals.specs.Watching.{SawLast};
+ghost use Rattle.squeue_arrivals.specs.declared.served.ServedSource.{ServedSource};
 ghost use Rattle.stream_stays.specs.declared.stay.Stay.{Stay};
 ghost use Rattle.stream_stays.specs.declared.stay.Vacant.{Vacant};
 ghost use Rattle.ring_quotas.specs.Quotas.{setting_at};
@@ -35,10 +39,12 @@ ghost use Rattle.datagram_services.specs.Served.{HasMoreServed};
 ghost use Rattle.trace_replay.specs.Answers.{HasReplayed};
 ghost use Rattle.trace_replay.specs.Replays.{Replays, most_input};
 ghost use Rattle.trace_replay.specs.declared.run.Replayed.TheVariants as replayed;
-ghost use Rattle.live_rings.specs.Served.{AllEnded};
+ghost use Rattle.live_rings.specs.Served.{AllEnded, AllLived};
 ghost use Rattle.squeue_run.specs.Asked.{asked};
 ghost use Rattle.squeue_run.specs.Ran.{Accepts, HasRan};
 ghost use Rattle.worked_runs.specs.FiveSegments as Five;
+ghost use Rattle.worked_runs.specs.OneArrival as Arrived;
+ghost use Rattle.worked_runs.specs.OneArrival.{ComesBy, GaveOne, HasItsItem};
 ghost use Rattle.worked_runs.specs.OneCall as Called;
 ghost use Rattle.worked_runs.specs.OneCall.{AreResidents};
 ghost use Rattle.worked_runs.specs.OneClose as Closed;
@@ -56,6 +62,7 @@ ghost use Rattle.worked_runs.specs.TwoSqueues as Two;
 
 use placed_parts::Parts;
 use replay_law::laws::a_traced_run_replays;
+use squeue_arrivals::{Arrivals, KeySteps};
 use squeue_streams::Steps;
 
 /// The history is legal, ends, keeps the pace of its setup, each mark of all passes is the one for what its turn found, and it has the
@@ -180,12 +187,23 @@ pub fn there_is_a_run_over_datagrams()
     a_history_of_one_feed_fits();
 }
 
-/// There is a run of live servers that ends well: of the one stream, whose ends are lists, all frames were read, of a connection that opens,
-/// sends a text and closes; and what was written is a SYN,ACK, the text, and a FIN.
-pub fn there_is_a_run_over_frames()
-    ensures { (pass : Known (Pass Element))
-        → AllEnded (λ bytes. Some bytes) (λ _. 0) (λ bytes. Some bytes) (λ _. 0) Frames.layout (Frames.before ∷ []) (Frames.after pass ∷ []) }
+/// Of a run of live servers with one connection, the history of its squeue is legal, and ends.
+pub fn a_history_of_one_life_fits()
+    ensures legal { Legal Frames.setting Frames.history }
+    ensures over { IsOver Frames.setting (run Frames.setting Frames.history) }
 {}
+
+/// There is a run of live servers that ends well: of the one stream, whose ends are lists, all frames were read, of a connection that opens,
+/// sends a text and closes; and what was written is a SYN,ACK, the text, and a FIN. In the history that is written out its part had a feed
+/// for its beginning, and one for each frame that it heard.
+pub fn there_is_a_run_over_frames()
+    ensures ended { (pass : Known (Pass Element))
+        → AllEnded (λ bytes. Some bytes) (λ _. 0) (λ bytes. Some bytes) (λ _. 0) Frames.layout (Frames.before ∷ []) (Frames.after pass ∷ []) }
+    ensures lived { (pass : Known (Pass Element)) → AllLived (λ bytes. Some bytes) (λ _. 0) (λ bytes. Some bytes) (λ _. 0)
+        Frames.layout (Frames.ending ∷ []) (Frames.before ∷ []) (Frames.after pass ∷ []) }
+{
+    a_history_of_one_life_fits();
+}
 
 /// Of a run with a call, the history is legal, ends, and keeps the pace of its pool, and each mark of all passes is the one for what its
 /// turn found.
@@ -240,6 +258,29 @@ pub fn there_is_a_look<S: Parts>()
         → IsLooked S.Parts s r part from to → HasLooked S.Parts s from to (None ∷ []) → ⊥ }
 {
     a_history_with_a_look_fits();
+}
+
+/// Of work that arrives, the history is legal, also up to the look, and ends.
+pub fn a_history_of_one_arrival_fits()
+    ensures legal { Legal Arrived.setting Arrived.ending.history }
+    ensures looked { Legal Arrived.setting Arrived.looked }
+    ensures over { IsOver Arrived.setting (run Arrived.setting Arrived.ending.history) }
+{}
+
+/// There is work that arrives: for items and sources of every kind, a source that gave one item is served, in the history that is written
+/// out, where the item's key has its part, and isn't where it has none; and who looked saw the part.
+pub fn there_is_work_that_arrives<X: KeySteps, A: Arrivals<Item = X::Item>>()
+    ensures served { (work : X) (source : A) (left : ServedSource A X.Item X.State) (key : ℕ) (item : X.Item) (from to : X.State)
+        → GaveOne A.origin A.given A.is_over source left key item → ComesBy X.begins X.step work item from to
+        → left.parts.items ≡ record { key = key; state = to } ∷ []
+        → IsServedIn X.begins X.step A.origin A.given A.is_over work 1 Arrived.ending 0 source left }
+    ensures refused { (work : X) (source : A) (left : ServedSource A X.Item X.State) (key : ℕ) (item : X.Item)
+        → GaveOne A.origin A.given A.is_over source left key item → left.parts.items ≡ []
+        → IsServedIn X.begins X.step A.origin A.given A.is_over work 1 Arrived.ending 0 source left → ⊥ }
+    ensures seen { (work : X) (stream : Stream X.Item X.State) (item : X.Item) (from : X.State) → HasItsItem X.begins X.step work stream item from
+        → SawLast X.begins X.step work (λ parts seen. seen ≡ parts) Arrived.setting 1 1 Arrived.ending.history (Some (Some stream ∷ [])) }
+{
+    a_history_of_one_arrival_fits();
 }
 
 /// There are statements: these are those of two accounts, and all that was paid in and sent stands in them.
