@@ -48,8 +48,8 @@ module _ {S K : Type 0} (rest : S → Option (List ℕ)) (reads : S → ℕ) (co
     pub words : result ≢ Err Fault'.Words
 
   -- A stream with these ends, which was served by a server that was set up so. Where nothing went wrong its input was whole frames, and its
-  -- sink got what one server answers to them; in any case the sink got a front of that. What went wrong has its cause: a read failed there,
-  -- or a write, or its input isn't whole frames. Where a read failed the sink got what is answered to all that was read, and where the input
+  -- sink got what one server answers to them; with a fault it got a front of that, if nothing was lost. What went wrong has its cause: a read
+  -- failed there, or a write, or its input isn't whole frames. Where a read failed the sink got what is answered to all that was read, and where the input
   -- isn't whole frames what is answered to those that are. Memory may be missing at any time; where the run goes on, that may cost a
   -- connection, and then of what the sink got is known that it is whole frames, unless a write failed
   pub record HasEnded (setup : Layout) (e : Ends S K) (d : EndedRing S K) : Type 0 where

@@ -29,8 +29,8 @@ use std::thread::Threads;
 /// A ring brings the items of each source to a squeue, which has a worker. The steps are copied for each squeue. It fails only for want of
 /// memory before a squeue begins, and where the rings of a squeue have 2^32 places or more.
 ///
-/// A key belongs to its source: where two sources give items of one key, there are two parts. Nothing is dropped, and nothing waits for
-/// ever but for a source that answers `NoneYet`: an item that finds its squeue full waits there.
+/// A key belongs to its source: where two sources give items of one key, there are two parts. Nothing is dropped: an item that finds its
+/// squeue full waits there. A source that answers `NoneYet` is asked again.
 pub fn serve_arriving<
     X: KeySteps + Copy + Send + Sync,
     A: Arrivals<Item = X::Item> + Drop + Send,

@@ -31,8 +31,8 @@ module _ {T S : Type 0} where
   abbrev pub items_of : Stream T S → List T
   items_of stream = received stream.input
 
-  -- A stream has had as many feeds as it counts since it was put in, and at least as many items were ever popped. Each feed popped one:
-  -- all others are counted beside them.
+  -- A stream has had as many feeds as it counts since it was put in, and at least as many items were ever popped. The items
+  -- that it counts are one for each feed, and others beside them.
   pub record HasTaken (stream : Stream T S) (had : List Act) : Type 0 where
     pub feeds : fed had ≡ stream.had
     pub popped : stream.had ≤ length (received stream.input)
