@@ -32,38 +32,23 @@ pub all_left : {T : Type 0} (xs more ys : List T) → length more ≡ 0 → xs +
 all_left xs [] ys none is = sym (append-nil xs) ∙ is
 all_left xs (y ∷ more) ys none is = absurd (let e : length (y ∷ more) ≡ 0 = none in omega (arith, e))
 
--- one more than a number that is counted modulo 2^64
-one_more : (n count : ℕ) → count ≡ n % 2 ^ 64 → (count + 1) % 2 ^ 64 ≡ (n + 1) % 2 ^ 64
-one_more n count is = ap (λ (k : ℕ). (k + 1) % 2 ^ 64) is ∙ mod-add-mod n (2 ^ 64) 1
-
 module _ {T S : Type 0} where
   -- a feed below the limit can be counted
   pub counted : (stream : Stream T S) (count n c : ℕ) → HasFed (HasTaken stream) n → n < slice_index (replicate count most_feeds) c → stream.had < most_feeds
   counted stream count n c was below = omega (arith, was.stands.feeds, was.feeds, below, limit_within count most_feeds c)
 
-  -- a feed takes one item
   pub taken_more : (n : ℕ) (stream next : Stream T S) (x : T) (had : List Act) → received next.input ≡ received stream.input ++ x ∷ [] → next.had ≡ stream.had + 1
-      → next.beside ≡ stream.beside → next.count ≡ (stream.count + 1) % 2 ^ 64 → HasTaken stream had → HasTaken next (had ++ Did.Feed n ∷ [])
-  taken_more n stream next x had popped more same count h =
-      let sum : stream.beside + stream.had + 1 ≡ next.beside + next.had = omega (arith, same, more) in
+      → HasTaken stream had → HasTaken next (had ++ Did.Feed n ∷ [])
+  taken_more n stream next x had popped more h =
       record {
         feeds = fed-append had (Did.Feed n ∷ []) ∙ omega (arith, h.feeds, more);
         popped = omega (arith, more, h.popped, ap length popped, length-append (received stream.input) (x ∷ []));
-        each = count ∙ (one_more (stream.beside + stream.had) stream.count h.each ∙ ap (λ (k : ℕ). k % 2 ^ 64) sum);
       }
 
-  -- or one is taken beside the feeds
-  taken_beside : (stream next : Stream T S) (x : T) (had : List Act) → received next.input ≡ received stream.input ++ x ∷ [] → next.had ≡ stream.had
-      → next.beside ≡ (stream.beside + 1) % 2 ^ 64 → next.count ≡ (stream.count + 1) % 2 ^ 64 → HasTaken stream had → HasTaken next had
-  taken_beside stream next x had popped same more count h =
-      let sum : stream.beside + stream.had + 1 ≡ stream.beside + 1 + stream.had = omega arith in
-      record {
-        feeds = h.feeds ∙ sym same;
-        popped = omega (arith, same, h.popped, ap length popped, length-append (received stream.input) (x ∷ []));
-        each =
-            count ∙ (one_more (stream.beside + stream.had) stream.count h.each ∙ (ap (λ (k : ℕ). k % 2 ^ 64) sum
-            ∙ (sym (mod-add-mod (stream.beside + 1) (2 ^ 64) stream.had) ∙ sym (λ i. (more i + same i) % 2 ^ 64))));
-      }
+  -- an item that is taken beside the feeds
+  taken_beside : (stream next : Stream T S) (x : T) (had : List Act) → received next.input ≡ received stream.input ++ x ∷ [] → next.had ≡ stream.had → HasTaken stream had → HasTaken next had
+  taken_beside stream next x had popped same h =
+      record { feeds = h.feeds ∙ sym same; popped = omega (arith, same, h.popped, ap length popped, length-append (received stream.input) (x ∷ [])) }
 
   pub stream_more : {O : Type 0} (begins : O → ℕ → Consumer T Global AnyItems → S → Type 0) (step : O → S → T → S → Type 0) (o : O) (c : ℕ) (stream next : Stream T S) (x : T)
       → IsStreamOf begins step o c stream → SameConsumer stream.input next.input → received next.input ≡ received stream.input ++ x ∷ [] → step o stream.state x next.state → next.count ≡ (stream.count + 1) % 2 ^ 64 → IsStreamOf begins step o c next
@@ -75,8 +60,8 @@ module _ {T S : Type 0} where
         its_ring = same_end is.first_input stream.input next.input is.its_ring ring;
         taken = subst (λ (xs : List T). Takes (step o) is.first xs next.state) (sym popped) (takes_more (step o) is.first stream.state next.state (received stream.input) x is.taken one);
         counted =
-            more ∙ (one_more (length (received stream.input)) stream.count is.counted
-            ∙ ap (λ (n : ℕ). n % 2 ^ 64) (sym (ap length popped ∙ length-append (received stream.input) (x ∷ []))));
+            more ∙ (ap (λ (n : ℕ). (n + 1) % 2 ^ 64) is.counted ∙ (mod-add-mod (length (received stream.input)) (2 ^ 64) 1
+            ∙ ap (λ (n : ℕ). n % 2 ^ 64) (sym (ap length popped ∙ length-append (received stream.input) (x ∷ [])))));
       }
 
   -- a stream from which nothing was popped is what it begins with
@@ -94,7 +79,7 @@ module _ {T S : Type 0} where
 
   -- a call changes nothing
   pub called : (j k : ℕ) (stream : Stream T S) (had : List Act) → HasTaken stream had → HasTaken stream (had ++ Did.Call j k ∷ [])
-  called j k stream had h = record { feeds = fed-append had (Did.Call j k ∷ []) ∙ omega (arith, h.feeds); popped = h.popped; each = h.each }
+  called j k stream had h = record { feeds = fed-append had (Did.Call j k ∷ []) ∙ omega (arith, h.feeds); popped = h.popped }
 
   -- a stream that is put in again is what it was
   pub stream_same : {O : Type 0} (begins : O → ℕ → Consumer T Global AnyItems → S → Type 0) (step : O → S → T → S → Type 0) (o : O) (c : ℕ) (stream next : Stream T S)
@@ -111,11 +96,11 @@ module _ {T S : Type 0} where
 
   -- a look at the ring takes nothing
   pub has_looked : {O : Type 0} (begins : O → ℕ → Consumer T Global AnyItems → S → Type 0) (step : O → S → T → S → Type 0) (o : O) (stream next : Stream T S)
-      → SameConsumer stream.input next.input → received next.input ≡ received stream.input → next.state ≡ stream.state → next.had ≡ stream.had → next.beside ≡ stream.beside → next.count ≡ stream.count → HasTakenMore begins step o stream next
-  has_looked begins step o stream next ring popped state had beside count =
+      → SameConsumer stream.input next.input → received next.input ≡ received stream.input → next.state ≡ stream.state → next.had ≡ stream.had → next.count ≡ stream.count → HasTakenMore begins step o stream next
+  has_looked begins step o stream next ring popped state had count =
       record {
         ring = ring;
-        stands = λ notes h. record { feeds = h.feeds ∙ sym had; popped = rw (had, popped) h.popped; each = rw (count, beside, had) h.each };
+        stands = λ notes h. record { feeds = h.feeds ∙ sym had; popped = rw (had, popped) h.popped };
         its = λ c is.
             record {
               first = is.first;
@@ -129,12 +114,12 @@ module _ {T S : Type 0} where
 
   -- one item more is more
   pub has_one_more : {O : Type 0} (begins : O → ℕ → Consumer T Global AnyItems → S → Type 0) (step : O → S → T → S → Type 0) (o : O) (stream next : Stream T S) (x : T)
-      → SameConsumer stream.input next.input → received next.input ≡ received stream.input ++ x ∷ [] → next.had ≡ stream.had → next.beside ≡ (stream.beside + 1) % 2 ^ 64 → step o stream.state x next.state → next.count ≡ (stream.count + 1) % 2 ^ 64
+      → SameConsumer stream.input next.input → received next.input ≡ received stream.input ++ x ∷ [] → next.had ≡ stream.had → step o stream.state x next.state → next.count ≡ (stream.count + 1) % 2 ^ 64
       → HasTakenMore begins step o stream next
-  has_one_more begins step o stream next x ring popped had beside one more =
+  has_one_more begins step o stream next x ring popped had one more =
       record {
         ring = ring;
-        stands = λ notes. taken_beside stream next x notes popped had beside more;
+        stands = λ notes. taken_beside stream next x notes popped had;
         its = λ c is. stream_more begins step o c stream next x is ring popped one more;
       }
 

@@ -1,5 +1,5 @@
 -- What a stream stands for, and which items its state is made of.
-use Rattle.std.specs.Prelude.{◌≡◌, ◌+◌, ◌-◌, ◌%◌, ◌^◌, ◌≤◌, ℕ, List, [], ◌∷◌, length, replicate}
+use Rattle.std.specs.Prelude.{◌≡◌, ◌-◌, ◌%◌, ◌^◌, ◌≤◌, ℕ, List, [], ◌∷◌, ◌++◌, length, replicate}
 use Rattle.std.proofs.Common.{Global}
 use Rattle.perimeter_core.specs.declared.entries.Act.{Act}
 use Rattle.perimeter_core.specs.History.{Limits}
@@ -31,12 +31,10 @@ module _ {T S : Type 0} where
   abbrev pub items_of : Stream T S → List T
   items_of stream = received stream.input
 
-  -- A stream has had as many feeds as it counts since it was put in, and at least as many items were ever popped. The items
-  -- that it counts are one for each feed, and others beside them.
+  -- a stream has had as many feeds as it counts since it was put in, and at least as many items were ever popped
   pub record HasTaken (stream : Stream T S) (had : List Act) : Type 0 where
     pub feeds : fed had ≡ stream.had
     pub popped : stream.had ≤ length (received stream.input)
-    pub each : stream.count ≡ (stream.beside + stream.had) % 2 ^ 64
 
   -- The state of stream c is what the steps make of all items that were popped, in order, from one in which it may begin with this end of
   -- a ring, of which it still holds the same end; and the stream counts these items
@@ -48,6 +46,13 @@ module _ {T S : Type 0} where
     pub its_ring : SameConsumer first_input stream.input
     pub taken : Takes (step o) first (received stream.input) stream.state
     pub counted : stream.count ≡ length (received stream.input) % 2 ^ 64
+
+  -- one item was popped off the same ring, and taken
+  pub record TakesOne (step : S → T → S → Type 0) (from to : Stream T S) : Type 0 where
+    pub item : T
+    pub ring : SameConsumer from.input to.input
+    pub popped : received to.input ≡ received from.input ++ item ∷ []
+    pub taken : step from.state item to.state
 
   -- The stream has taken some items more, and no feed: it stands for what it stood for, and is still that of each number of which it was
   pub record HasTakenMore {O : Type 0} (begins : O → ℕ → Consumer T Global AnyItems → S → Type 0)

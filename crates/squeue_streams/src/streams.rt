@@ -1,6 +1,6 @@
 //! The parts: what is made of the items of each stream.
-ghost use Rattle.std.specs.Prelude.{◌≡◌, ◌+◌, ◌<◌, ℕ, [], ◌∷◌, ◌++◌, IfOk, length};
-ghost use Rattle.std.proofs.Common.{Global};
+ghost use Rattle.std.specs.Prelude.{◌≡◌, ◌+◌, ◌<◌, ℕ, [], ◌∷◌, ◌++◌, IfOk, length, slice_index};
+ghost use Rattle.std.proofs.Common.{Global, List};
 ghost use Rattle.rtrb.specs.declared.AnyItems.{AnyItems};
 ghost use Rattle.rtrb.specs.declared.consumer.Consumer.{Consumer};
 ghost use Rattle.rtrb.specs.Ring.{IsPair, ProducerLooked, SameConsumer, known_items, received, sent};
@@ -40,14 +40,13 @@ pub trait Steps {
 }
 
 /// A stream at its squeue: the end of its ring that pops, what was made of the items that were popped, how many feeds it has had
-/// since it was put in, and how many items were popped, in all and beside these feeds, both modulo 2^64.
+/// since it was put in, and how many items were popped in all, modulo 2^64.
 #[derive(Drop)]
 pub struct Stream<T: Drop, S: Drop> {
     input: Consumer<T>,
     pub state: S,
     had: u32,
     count: u64,
-    beside: u64,
 }
 
 impl<T: Drop, S: Drop> Stream<T, S> {
@@ -63,7 +62,6 @@ impl<T: Drop, S: Drop> Stream<T, S> {
             state,
             had: 0,
             count: 0,
-            beside: 0,
         }
     }
 
@@ -79,7 +77,6 @@ impl<T: Drop, S: Drop> Stream<T, S> {
             state: self.state,
             had: 0,
             count: self.count,
-            beside: self.count,
         }
     }
 
@@ -160,7 +157,6 @@ impl<X: Steps + Drop, H: Wait + Drop> Streams<X, H> {
         let item = stream.input.pop_known();
         self.steps.take(alloc, &mut stream.state, item);
         stream.count = stream.count.wrapping_add(1);
-        stream.beside = stream.beside.wrapping_add(1);
     }
 
     /// The next item of a ring. It waits for it.
@@ -179,7 +175,10 @@ impl<X: Steps + Drop, H: Wait + Drop> Streams<X, H> {
 }
 
 impl<X: Steps + Drop, H: Wait + Drop> Parts for Streams<X, H> {
-    ghost use Rattle.squeue_streams.specs.Taking.{IsStreamOf, limits_of};
+    ghost use Rattle.perimeter_core.specs.declared.entries.Act.{Act};
+    ghost use Rattle.perimeter_core.specs.declared.entries.Act.TheVariants as Did;
+    ghost use Rattle.placed_parts.specs.Standing.{HasFed};
+    ghost use Rattle.squeue_streams.specs.Taking.{IsStreamOf, TakesOne, limits_of};
     ghost use Rattle.std.proofs.Common.{sym, ◌∙◌};
 
     type Part = Stream<X::Item, X::State>;
@@ -200,7 +199,15 @@ impl<X: Steps + Drop, H: Wait + Drop> Parts for Streams<X, H> {
         Ok(Stream::of(input, state))
     }
 
-    fn feed(&self, alloc: Global, stream: &mut Self::Part, _c: u32, _n: u32) {
+    /// Pops the next item and takes it. It waits for it.
+    fn feed(&self, alloc: Global, stream: &mut Self::Part, _c: u32, _n: u32)
+        requires owner { IsStreamOf X.begins X.step (X.origin (steps_of self.now)) _c stream.old }
+        requires next { HasFed (HasTaken stream.old) _n }
+        requires limit { _n < slice_index (limits_of self.now).feeds _c }
+        ensures owner { IsStreamOf X.begins X.step (X.origin (steps_of self.now)) _c stream.new }
+        ensures stands { (had : List Act) → HasTaken stream.old had → HasTaken stream.new (had ++ Did.Feed _n ∷ []) }
+        ensures one { TakesOne (X.step (X.origin (steps_of self.now))) stream.old stream.new }
+    {
         let item = self.next(&mut stream.input);
         self.steps.take(alloc, &mut stream.state, item);
         stream.had += 1;

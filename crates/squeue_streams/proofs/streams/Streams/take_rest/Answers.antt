@@ -13,7 +13,7 @@ loop-k-init g c =
       all = looked.fifo ∙ looked.producer.1;
       taken =
           has_looked g.X.Steps.begins g.X.Steps.step (g.X.Steps.origin c.args.self.now.steps) was
-          (record { input = c.slots_beside-left.new.self; state = was.state; had = was.had; count = was.count; beside = was.beside }) looked.looked.0 looked.looked.1 refl refl refl refl;
+          (record { input = c.slots_beside-left.new.self; state = was.state; had = was.had; count = was.count }) looked.looked.0 looked.looked.1 refl refl refl;
     }
 
 pub take_known-requires : goal.take_known-requires
