@@ -11,7 +11,16 @@ MOST_HEAD = 8192
 TOKEN = rb"[!#$%&'*+.^_`|~0-9A-Za-z-]+"
 REQUEST_LINE = re.compile(rb"(" + TOKEN + rb") ([!-~\x80-\xff]+) HTTP/(\d)\.(\d)")
 FIELD_LINE = re.compile(rb"(" + TOKEN + rb"):([\t -~\x80-\xff]*)")
-HOST = re.compile(rb"[A-Za-z0-9._~%!$&'()*+,;=:\[\]-]*")
+# RFC 3986, 3.2.2 and 3.2.3: unreserved and sub-delims, reg-name, IP-literal (by its bytes alone, as docs/WEB.md tells), port
+PLAIN = rb"A-Za-z0-9._~!$&'()*+,;=-"
+REG_NAME = rb"(?:[" + PLAIN + rb"]|%[0-9A-Fa-f]{2})*"
+IP_LITERAL = rb"\[[:" + PLAIN + rb"]+\]"
+# Host = uri-host [ ":" port ] (RFC 9110, 7.2); an http URI has a host that isn't empty, and no user (4.2.1 and 4.2.4)
+HOST = re.compile(rb"(" + IP_LITERAL + rb"|" + REG_NAME + rb")(?::[0-9]*)?")
+HTTP_URI = re.compile(rb"(?i:http)://([^/?]*)([^?]*)(?:\?.*)?", re.DOTALL)
+# entity-tag = [ weak ] opaque-tag (RFC 9110, 8.8.3), and a list of such, with empty elements (5.6.1)
+ENTITY_TAG = rb'(?:W/)?"[\x21\x23-\x7e\x80-\xff]*"'
+TAGS = re.compile(rb"[ \t]*(?:" + ENTITY_TAG + rb")?(?:[ \t]*,[ \t]*(?:" + ENTITY_TAG + rb")?)*[ \t]*")
 ONE_RANGE = re.compile(rb"(?i:bytes)=([0-9]*)-([0-9]*)")
 OTHER_METHODS = {b"POST", b"PUT", b"DELETE", b"CONNECT", b"OPTIONS", b"TRACE", b"PATCH"}
 
@@ -103,17 +112,21 @@ class Request:
 
     def path(self):
         """The path that is asked for (RFC 9112, 3.2.1 and 3.2.2); None where the target has neither form."""
-        target = self.target.split(b"?")[0]
-        if target[:1] == b"/":
-            return target
-        if target[:7].lower() == b"http://":
-            rest = target[7:]
-            return rest[rest.index(b"/"):] if b"/" in rest else b"/"
-        return None
+        if self.target[:1] == b"/":
+            return self.target.split(b"?")[0]
+        found = HTTP_URI.fullmatch(self.target)
+        named = found and HOST.fullmatch(found[1])
+        return (found[2] or b"/") if named and named[1] else None
+
+
+def tags_in(value):
+    """The entity tags of a field's value. One that is no list of tags is cut at its commas, as docs/WEB.md tells."""
+    return re.findall(ENTITY_TAG, value) if TAGS.fullmatch(value) else elements([value])
 
 
 def tags_match(values, tag, weak):
-    return any(given in (b"*", tag) or weak and given == b"W/" + tag for given in elements(values))
+    """If-Match and If-None-Match = "*" / #entity-tag (RFC 9110, 13.1.1 and 13.1.2), by the comparison of 8.8.3.2."""
+    return b"*" in values or any(given == tag or weak and given == b"W/" + tag for value in values for given in tags_in(value))
 
 
 def part_of(request, page):

@@ -7,4 +7,5 @@ pub mod TextLemmas
 pub mod AloneLemmas
 pub mod GrammarLemmas
 pub mod AcceptLemmas
+pub mod NamingLemmas
 pub mod PartLemmas

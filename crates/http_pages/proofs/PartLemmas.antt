@@ -1,8 +1,8 @@
--- What is sent of a page: all of it, or a part that it has.
-use Rattle.std.proofs.Common.{◌≡◌, ℕ, ◌+◌, ◌-◌, ◌<◌, ◌≤◌, min, Bool, true, false, not, ◌&&◌, List, [], ◌∷◌, length, take, refl, subst, arith}
+-- What is sent of a page: all of it, or a part that it has; and of which page.
+use Rattle.std.proofs.Common.{◌≡◌, ℕ, ◌+◌, ◌-◌, ◌<◌, ◌≤◌, min, Bool, true, false, not, ◌&&◌, List, [], ◌∷◌, ◌++◌, length, take, refl, sym, ap, ◌∙◌, subst, arith}
 use Rattle.std.specs.Prelude.{Option, Some, None, Result, Ok, Err, ◌==◌, nat_le, nat_lt, if◌then◌else◌, codes, ⊤}
 use Rattle.std.specs.List.{list_any, list_all, before_first, after_first}
-use Rattle.std.proofs.lemmas.Bool.{leb-false, ltb-false, eqb-false}
+use Rattle.std.proofs.lemmas.Bool.{leb-false, ltb-false, eqb-false, false≢true}
 use Rattle.std.proofs.lemmas.Option.{same_Some, none-some}
 use Rattle.http1.specs.declared.framing.Framing.{Framing}
 use Rattle.http1.specs.declared.framing.FramingError.{FramingError}
@@ -12,10 +12,13 @@ use Rattle.http_pages.specs.declared.answer.Status.{Status}
 use Rattle.http_pages.specs.declared.answer.Status.TheVariants as s
 use Rattle.http_pages.specs.declared.ranges.Wanted.{Wanted}
 use Rattle.http_pages.specs.declared.ranges.Wanted.TheVariants.{Whole, Part, Nothing}
-use Rattle.http_pages.specs.Choosing.{answer, at_folder, at_page, by_conditions, by_fault, by_lines, by_method, by_path, by_range, is_had, is_known, is_matched, is_served, nth_page, of_page, path_of, plain, refused, unserved, with_part}
+use Rattle.http_pages.specs.Choosing.{answer, at_folder, at_page, by_conditions, by_fault, by_lines, by_method, by_path, by_range, is_had, is_head, is_known, is_matched, is_served, nth_page, of_page, path_of, plain, refused, unserved, with_part}
 use Rattle.http_pages.specs.Heads.{begins_badly, from_request_line, head_length, is_filled, is_line_feed, lines}
 use Rattle.http_pages.specs.Limits.{most_head}
+use Rattle.http_pages.specs.Naming.{LiesAt, Tells, TellsOfTarget, tells_of_page}
 use Rattle.http_pages.specs.Pages.{Page, folder_named, page_named}
+use Rattle.percent_encoding.specs.Percent.{percent_decode}
+use Rattle.http_pages.proofs.NamingLemmas.{at-lies, named-lies, none-lies, unnamed}
 use Rattle.http_pages.specs.Ranges.{by_count, by_places, by_ranges, is_equals, is_hyphen, is_unchanged, number, range_set, range_spec, ranges_specifier, wanted_part}
 use Rattle.http_pages.specs.Reading.{answer_to, by_length, too_long}
 use Rattle.http_pages.specs.Requests.{fault_of, framing_fault, framing_of, has_content, has_host, is_field_line, is_major_one, is_request_line, known_of, method_of, minor_of, target_of, values_of, version_of}
@@ -82,129 +85,176 @@ wanted_within tag size fields =
 
 -- an answer
 
--- a status that sends nothing of a page
-abbrev SendsNone : Status → Type 0
-SendsNone status = (status ≡ s.Ok → ⊥) × (status ≡ s.PartialContent → ⊥)
-
 module _ (pages : List Page) where
-  abbrev pub Sends : Answer → Type 0
-  Sends a =
-      (a.status ≡ s.Ok → (a.from ≡ 0) × (a.to ≡ length (nth_page pages a.page).body))
-      × (a.status ≡ s.PartialContent → (a.from < a.to) × (a.to ≤ length (nth_page pages a.page).body))
+  -- what it sends, and what it tells of the target of this head
+  pub record Sends (head : List ℕ) (a : Answer) : Type 0 where
+    pub whole : a.status ≡ s.Ok → (a.from ≡ 0) × (a.to ≡ length (nth_page pages a.page).body)
+    pub part : a.status ≡ s.PartialContent → (a.from < a.to) × (a.to ≤ length (nth_page pages a.page).body)
+    pub tells : tells_of_page a.status ≡ true → TellsOfTarget pages head a
 
-  nothing : (a : Answer) → SendsNone a.status → Sends a
-  nothing a none = (λ e. absurd (none.0 e), λ e. absurd (none.1 e))
+  module _ (head : List ℕ) where
+    nothing : (a : Answer) → tells_of_page a.status ≡ false → Sends head a
+    nothing a none = record {
+      whole = λ e. absurd (false≢true (sym none ∙ ap tells_of_page e));
+      part = λ e. absurd (false≢true (sym none ∙ ap tells_of_page e));
+      tells = λ e. absurd (false≢true (sym none ∙ e));
+    }
 
-  -- all of a page, before its conditions and ranges are looked at
-  abbrev All : Answer → Type 0
-  All a = (a.status ≡ s.Ok) × (a.from ≡ 0) × (a.to ≡ length (nth_page pages a.page).body)
+    -- the target names this path
+    pub record Asks (line escaped : List ℕ) : Type 0 where
+      pub fields : List (List ℕ)
+      pub cut : lines head ≡ line ∷ fields
+      pub target : path_of (target_of line) ≡ Some escaped
 
-  all : (a : Answer) → All a → Sends a
-  all a is = (λ e. (is.1, is.2), λ e. absurd (let ok = is.0 in cc))
+    tells-of : (line escaped : List ℕ) (a : Answer) → Asks line escaped → Tells pages (percent_decode escaped) a.status a.page → TellsOfTarget pages head a
+    tells-of line escaped a k t = record { line = line; fields = k.fields; escaped = escaped; cut = k.cut; target = k.target; tells = t }
 
-  part : (a : Answer) (w : Wanted) → All a → Within a.to w → Sends (with_part a w)
-  part a Whole is within = all a is
-  part a (Part from to) is within = (λ e. cc, λ e. (within.0, omega (arith, within.1, is.2)))
-  part a Nothing is within = nothing (record a { status = s.RangeNotSatisfiable }) (λ e. cc, λ e. cc)
+    -- all of the page there, before its conditions and ranges are looked at
+    record All (line escaped : List ℕ) (a : Answer) : Type 0 where
+      pub asks : Asks line escaped
+      pub ok : a.status ≡ s.Ok
+      pub first : a.from ≡ 0
+      pub last : a.to ≡ length (nth_page pages a.page).body
+      pub lies : LiesAt pages (percent_decode escaped) a.page
 
-  conditions : (tag : List ℕ) (fields : List (List ℕ)) (a : Answer) → All a → Sends (by_conditions tag fields a)
-  conditions tag fields a is =
-      let changed = record a { status = s.PreconditionFailed } in
-      let had = record a { status = s.NotModified } in
-      let ranged =
-      either Sends a.only_head a (with_part a (wanted_part tag a.to fields)) (all a is) (part a (wanted_part tag a.to fields) is (wanted_within tag a.to fields)) in
-      by_test (is_matched tag fields) (is_had tag fields) (nothing changed (λ e. cc, λ e. cc)) (nothing had (λ e. cc, λ e. cc)) ranged
-    where
-      by_test : (t u : Bool) → Sends (record a { status = s.PreconditionFailed }) → Sends (record a { status = s.NotModified }) → Sends (by_range tag fields a)
-          → Sends (if not t then record a { status = s.PreconditionFailed } else (if u then record a { status = s.NotModified } else by_range tag fields a))
-      by_test false u f g h = f
-      by_test true true f g h = g
-      by_test true false f g h = h
+    module _ (line escaped : List ℕ) where
+      all : (a : Answer) → All line escaped a → Sends head a
+      all a is = record {
+        whole = λ e. (is.first, is.last);
+        part = λ e. absurd (let ok = is.ok in cc);
+        tells = λ e. tells-of line escaped a is.asks (subst (λ (st : Status). Tells pages (percent_decode escaped) st a.page) (sym is.ok) is.lies);
+      }
 
-  folder : (o : Option ℕ) (a : Answer) → Sends (at_folder o a)
-  folder None a = nothing (record a { status = s.NotFound }) (λ e. cc, λ e. cc)
-  folder (Some n) a = nothing (record a { status = s.MovedPermanently; page = n }) (λ e. cc, λ e. cc)
+      part-of : (a : Answer) (w : Wanted) → All line escaped a → Within a.to w → Sends head (with_part a w)
+      part-of a Whole is within = all a is
+      part-of a (Part from to) is within = record {
+        whole = λ e. cc;
+        part = λ e. (within.0, omega (arith, within.1, is.last));
+        tells = λ e. tells-of line escaped (with_part a (Part from to)) is.asks is.lies;
+      }
+      part-of a Nothing is within = record {
+        whole = λ e. cc;
+        part = λ e. cc;
+        tells = λ e. tells-of line escaped (with_part a Nothing) is.asks is.lies;
+      }
 
-  at : (path : List ℕ) (fields : List (List ℕ)) (a : Answer) (o : Option ℕ) → a.status ≡ s.Ok → a.from ≡ 0 → Sends (at_page pages path fields a o)
-  at path fields a None ok first = folder (folder_named pages path) a
-  at path fields a (Some n) ok first =
-      conditions (nth_page pages n).tag fields (of_page n (length (nth_page pages n).body) a) (ok, first, refl)
+      conditions : (tag : List ℕ) (fields : List (List ℕ)) (a : Answer) → All line escaped a → Sends head (by_conditions tag fields a)
+      conditions tag fields a is = by_test (is_matched tag fields) (is_had tag fields)
+        where
+          changed : Sends head (record a { status = s.PreconditionFailed })
+          changed = record { whole = λ e. cc; part = λ e. cc; tells = λ e. tells-of line escaped (record a { status = s.PreconditionFailed }) is.asks is.lies }
 
-  path : (fields : List (List ℕ)) (a : Answer) (o : Option (List ℕ)) → a.status ≡ s.Ok → a.from ≡ 0 → Sends (by_path pages fields a o)
-  path fields a None ok first = nothing (record a { status = s.BadRequest; keeps = false }) (λ e. cc, λ e. cc)
-  path fields a (Some p) ok first = at p fields a (page_named pages p) ok first
+          had : Sends head (record a { status = s.NotModified })
+          had = record { whole = λ e. cc; part = λ e. cc; tells = λ e. tells-of line escaped (record a { status = s.NotModified }) is.asks is.lies }
 
-  abbrev Refusing : Option Status → Type 0
-  Refusing o = (t : Status) → o ≡ Some t → SendsNone t
+          ranged : Sends head (by_range tag fields a)
+          ranged = either (Sends head) a.only_head a (with_part a (wanted_part tag a.to fields)) (all a is) (part-of a (wanted_part tag a.to fields) is (wanted_within tag a.to fields))
 
-  refuses : (t : Status) → SendsNone t → Refusing (Some t)
-  refuses t none u e = subst SendsNone (same_Some t u e) none
+          by_test : (t u : Bool) → Sends head (if not t then record a { status = s.PreconditionFailed } else (if u then record a { status = s.NotModified } else by_range tag fields a))
+          by_test false u = changed
+          by_test true true = had
+          by_test true false = ranged
 
-  no_refusal : Refusing None
-  no_refusal t e = absurd (none-some t e)
+      folder : (o : Option ℕ) (a : Answer) → Asks line escaped → page_named pages escaped ≡ None → folder_named pages escaped ≡ o → Sends head (at_folder o a)
+      folder None a k none e = record {
+        whole = λ e. cc;
+        part = λ e. cc;
+        tells = λ _. tells-of line escaped (at_folder None a) k (unnamed pages escaped none, none-lies (percent_decode escaped ++ 47 ∷ []) pages e);
+      }
+      folder (Some n) a k none e = record {
+        whole = λ e. cc;
+        part = λ e. cc;
+        tells = λ _. tells-of line escaped (at_folder (Some n) a) k (unnamed pages escaped none, at-lies (percent_decode escaped ++ 47 ∷ []) pages n e);
+      }
 
-  unserved_refuses : (content : Bool) (m : List ℕ) → Refusing (unserved content m)
-  unserved_refuses content m =
-      either Refusing (is_served m) (if content then Some s.ContentTooLarge else None) (if is_known m then Some s.MethodNotAllowed else Some s.NotImplemented)
-      (either Refusing content (Some s.ContentTooLarge) None (refuses s.ContentTooLarge (λ e. cc, λ e. cc)) no_refusal)
-      (either Refusing (is_known m) (Some s.MethodNotAllowed) (Some s.NotImplemented) (refuses s.MethodNotAllowed (λ e. cc, λ e. cc)) (refuses s.NotImplemented (λ e. cc, λ e. cc)))
+      at : (fields : List (List ℕ)) (a : Answer) (o : Option ℕ) → Asks line escaped → page_named pages escaped ≡ o → a.status ≡ s.Ok → a.from ≡ 0
+          → Sends head (at_page pages escaped fields a o)
+      at fields a None k e ok first = folder (folder_named pages escaped) a k e refl
+      at fields a (Some n) k e ok first =
+          conditions (nth_page pages n).tag fields (of_page n (length (nth_page pages n).body) a)
+          (record { asks = k; ok = ok; first = first; last = refl; lies = named-lies pages escaped n e })
 
-  method : (line : List ℕ) (fields : List (List ℕ)) (now : ℕ) (o : Option Status) → Refusing o → Sends (by_method pages line fields now o)
-  method line fields now None none = path fields (plain line fields now s.Ok) (path_of (target_of line)) refl refl
-  method line fields now (Some t) none = nothing (plain line fields now t) (none t refl)
+    path : (line : List ℕ) (fields : List (List ℕ)) (a : Answer) (o : Option (List ℕ)) → lines head ≡ line ∷ fields → path_of (target_of line) ≡ o → a.status ≡ s.Ok → a.from ≡ 0
+        → Sends head (by_path pages fields a o)
+    path line fields a None c e ok first = nothing (record a { status = s.BadRequest; keeps = false }) refl
+    path line fields a (Some escaped) c e ok first =
+        at line escaped fields a (page_named pages escaped) (record { fields = fields; cut = c; target = e }) refl ok first
 
-  framing_refuses : (other : Bool) (r : Result Framing FramingError) → Refusing (framing_fault other r)
-  framing_refuses other (Ok f) = either Refusing other (Some s.NotImplemented) None (refuses s.NotImplemented (λ e. cc, λ e. cc)) no_refusal
-  framing_refuses other (Err e) = refuses s.BadRequest (λ e. cc, λ e. cc)
+    abbrev pub Refusing : Option Status → Type 0
+    Refusing o = (t : Status) → o ≡ Some t → tells_of_page t ≡ false
 
-  fault_refuses : (line : List ℕ) (fields : List (List ℕ)) → Refusing (fault_of line fields)
-  fault_refuses line fields =
-      let bad = refuses s.BadRequest (λ e. cc, λ e. cc) in
-      let framing = framing_fault (known_of fields).other_coding (framing_of line fields) in
-      let good = list_all is_field_line fields && has_host (minor_of (version_of line)) fields in
-      either Refusing (not (is_request_line line)) (Some s.BadRequest)
-      (if not (is_major_one (version_of line)) then Some s.VersionNotSupported else (if not good then Some s.BadRequest else framing)) bad
-      (either Refusing (not (is_major_one (version_of line))) (Some s.VersionNotSupported) (if not good then Some s.BadRequest else framing) (refuses s.VersionNotSupported (λ e. cc, λ e. cc))
-      (either Refusing (not good) (Some s.BadRequest) framing bad (framing_refuses (known_of fields).other_coding (framing_of line fields))))
+    refuses : (t : Status) → tells_of_page t ≡ false → Refusing (Some t)
+    refuses t none u e = subst (λ (st : Status). tells_of_page st ≡ false) (same_Some t u e) none
 
-  fault : (line : List ℕ) (fields : List (List ℕ)) (now : ℕ) (o : Option Status) → Refusing o → Sends (by_fault pages line fields now o)
-  fault line fields now None none = method line fields now (unserved (has_content line fields) (method_of line)) (unserved_refuses (has_content line fields) (method_of line))
-  fault line fields now (Some t) none = (λ e. absurd ((none t refl).0 e), λ e. absurd ((none t refl).1 e))
+    no_refusal : Refusing None
+    no_refusal t e = absurd (none-some t e)
 
-  by_all_lines : (now : ℕ) (ls : List (List ℕ)) → Sends (by_lines pages now ls)
-  by_all_lines now [] = (λ e. cc, λ e. cc)
-  by_all_lines now (line ∷ fields) = fault line fields now (fault_of line fields) (fault_refuses line fields)
+    unserved_refuses : (content : Bool) (m : List ℕ) → Refusing (unserved content m)
+    unserved_refuses content m =
+        either Refusing (is_served m) (if content then Some s.ContentTooLarge else None) (if is_known m then Some s.MethodNotAllowed else Some s.NotImplemented)
+        (either Refusing content (Some s.ContentTooLarge) None (refuses s.ContentTooLarge refl) no_refusal)
+        (either Refusing (is_known m) (Some s.MethodNotAllowed) (Some s.NotImplemented) (refuses s.MethodNotAllowed refl) (refuses s.NotImplemented refl))
 
-  head : (now : ℕ) (text : List ℕ) → Sends (answer pages now text)
-  unfolding answer
-  head now text = by_all_lines now (lines text)
+    method : (line : List ℕ) (fields : List (List ℕ)) (now : ℕ) (o : Option Status) → lines head ≡ line ∷ fields → Refusing o → Sends head (by_method pages line fields now o)
+    method line fields now None c none = path line fields (plain line fields now s.Ok) (path_of (target_of line)) c refl refl refl
+    method line fields now (Some t) c none = nothing (plain line fields now t) (none t refl)
 
-  abbrev SendsIf : Option (Answer × ℕ) → Type 0
-  SendsIf o = (f : Answer × ℕ) → o ≡ Some f → Sends f.0
+    framing_refuses : (other : Bool) (r : Result Framing FramingError) → Refusing (framing_fault other r)
+    framing_refuses other (Ok f) = either Refusing other (Some s.NotImplemented) None (refuses s.NotImplemented refl) no_refusal
+    framing_refuses other (Err e) = refuses s.BadRequest refl
 
-  given : (a : Answer) (n : ℕ) → Sends a → SendsIf (Some (a, n))
-  given a n is f e = subst (λ (f : Answer × ℕ). Sends f.0) (same_Some (a, n) f e) is
+    fault_refuses : (line : List ℕ) (fields : List (List ℕ)) → Refusing (fault_of line fields)
+    fault_refuses line fields =
+        let bad = refuses s.BadRequest refl in
+        let framing = framing_fault (known_of fields).other_coding (framing_of line fields) in
+        let good = list_all is_field_line fields && has_host (minor_of (version_of line)) fields in
+        either Refusing (not (is_request_line line)) (Some s.BadRequest)
+        (if not (is_major_one (version_of line)) then Some s.VersionNotSupported else (if not good then Some s.BadRequest else framing)) bad
+        (either Refusing (not (is_major_one (version_of line))) (Some s.VersionNotSupported) (if not good then Some s.BadRequest else framing) (refuses s.VersionNotSupported refl)
+        (either Refusing (not good) (Some s.BadRequest) framing bad (framing_refuses (known_of fields).other_coding (framing_of line fields))))
 
-  no_answer : SendsIf None
-  no_answer f e = absurd (none-some f e)
+    fault : (line : List ℕ) (fields : List (List ℕ)) (now : ℕ) (o : Option Status) → lines head ≡ line ∷ fields → Refusing o → Sends head (by_fault pages line fields now o)
+    fault line fields now None c none =
+        method line fields now (unserved (has_content line fields) (method_of line)) c (unserved_refuses (has_content line fields) (method_of line))
+    fault line fields now (Some t) c none = nothing (refused t (is_head (method_of line)) now) (none t refl)
 
-  long : (now : ℕ) (front : List ℕ) → Sends (too_long now front)
-  long now front =
+    by_all_lines : (now : ℕ) (ls : List (List ℕ)) → lines head ≡ ls → Sends head (by_lines pages now ls)
+    by_all_lines now [] c = nothing (refused s.BadRequest false now) refl
+    by_all_lines now (line ∷ fields) c = fault line fields now (fault_of line fields) c (fault_refuses line fields)
+
+    chosen : (now : ℕ) → Sends head (answer pages now head)
+    unfolding answer
+    chosen now = by_all_lines now (lines head) refl
+
+  -- the head of an answer are the bytes that it takes
+  abbrev pub SendsIf : List ℕ → Option (Answer × ℕ) → Type 0
+  SendsIf front o = (f : Answer × ℕ) → o ≡ Some f → Sends (take f.1 front) f.0
+
+  given : (front : List ℕ) (a : Answer) (n : ℕ) → Sends (take n front) a → SendsIf front (Some (a, n))
+  given front a n is f e = subst (λ (f : Answer × ℕ). Sends (take f.1 front) f.0) (same_Some (a, n) f e) is
+
+  no_answer : (front : List ℕ) → SendsIf front None
+  no_answer front f e = absurd (none-some f e)
+
+  long : (head : List ℕ) (now : ℕ) (front : List ℕ) → Sends head (too_long now front)
+  long head now front =
       by_test (list_any is_line_feed (from_request_line front))
     where
-      by_test : (t : Bool) → Sends (refused (if t then s.HeadTooLarge else s.UriTooLong) false now)
-      by_test true = (λ e. cc, λ e. cc)
-      by_test false = (λ e. cc, λ e. cc)
+      by_test : (t : Bool) → Sends head (refused (if t then s.HeadTooLarge else s.UriTooLong) false now)
+      by_test true = nothing head (refused s.HeadTooLarge false now) refl
+      by_test false = nothing head (refused s.UriTooLong false now) refl
 
-  by_size : (now : ℕ) (front : List ℕ) (o : Option ℕ) → SendsIf (by_length pages now front o)
-  by_size now front (Some n) = given (answer pages now (take n front)) n (head now (take n front))
+  by_size : (now : ℕ) (front : List ℕ) (o : Option ℕ) → SendsIf front (by_length pages now front o)
+  by_size now front (Some n) = given front (answer pages now (take n front)) n (chosen (take n front) now)
   by_size now front None =
-      either SendsIf (nat_le most_head (length front)) (Some (too_long now front, most_head)) None (given (too_long now front) most_head (long now front)) no_answer
+      either (SendsIf front) (nat_le most_head (length front)) (Some (too_long now front, most_head)) None
+      (given front (too_long now front) most_head (long (take most_head front) now front)) (no_answer front)
 
-  pub answer_to-sends : (now : ℕ) (bytes : List ℕ) → SendsIf (answer_to pages now bytes)
+  pub answer_to-sends : (now : ℕ) (bytes : List ℕ) → SendsIf (take most_head bytes) (answer_to pages now bytes)
   unfolding answer_to
   answer_to-sends now bytes =
       let front = take most_head bytes in
       let count = length front - length (from_request_line front) + 1 in
-      either SendsIf (begins_badly (from_request_line front)) (Some (refused s.BadRequest false now, count)) (by_length pages now front (head_length front))
-      (given (refused s.BadRequest false now) count (λ e. cc, λ e. cc)) (by_size now front (head_length front))
+      let bad = refused s.BadRequest false now in
+      either (SendsIf front) (begins_badly (from_request_line front)) (Some (bad, count)) (by_length pages now front (head_length front))
+      (given front bad count (nothing (take count front) bad refl)) (by_size now front (head_length front))

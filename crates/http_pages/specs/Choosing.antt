@@ -9,8 +9,9 @@ use Rattle.http_pages.specs.Pages.{Page, page_named, folder_named}
 use Rattle.http_pages.specs.declared.ranges.Wanted.{Wanted}
 use Rattle.http_pages.specs.declared.ranges.Wanted.TheVariants.{Whole, Part, Nothing}
 use Rattle.http_pages.specs.Heads.{lines}
+use Rattle.http_pages.specs.Hosts.{is_authority}
 use Rattle.http_pages.specs.Ranges.{wanted_part}
-use Rattle.http_pages.specs.Requests.{method_of, target_of, version_of, minor_of, fault_of, has_content, keeps, has_element, has_field}
+use Rattle.http_pages.specs.Requests.{method_of, target_of, version_of, minor_of, fault_of, has_content, keeps, names_tag, has_field}
 
 abbrev pub is_slash : ℕ → Bool
 is_slash b = b == 47
@@ -25,26 +26,29 @@ from_slash rest = let n = position_or_len is_slash rest in if nat_lt n (length r
 abbrev pub has_scheme : List ℕ → Bool
 has_scheme target = nat_le 7 (length target) && eq_ignore_case (take 7 target) (codes "http://")
 
--- the path of a target, without its query: of the origin form (RFC 9112, 3.2.1), and of the absolute form (3.2.2), whose authority
--- nobody looks at, since there is one site
+-- the path behind the authority of an http URI (RFC 9110, 4.2.1). Which host it names doesn't matter, since there is one site
+abbrev pub behind_authority : List ℕ → Option (List ℕ)
+behind_authority rest = if is_authority (before_first is_slash rest) then Some (from_slash rest) else None
+
+-- the path of a target, without its query: of the origin form (RFC 9112, 3.2.1), and of the absolute form (3.2.2)
 unfoldable pub path_of : List ℕ → Option (List ℕ)
 path_of target =
     if slice_index target 0 == 47 then Some (before_first is_question target)
-    else (if has_scheme target then Some (from_slash (before_first is_question (drop 7 target))) else None)
+    else (if has_scheme target then behind_authority (before_first is_question (drop 7 target)) else None)
 
--- a tag of the field is this one, or it is a star: by the strong comparison, where no weak tag counts, or by the weak one (RFC 9110, 8.8.3.2)
+-- a tag of the field is this one: by the strong comparison, where no weak tag counts, or by the weak one (RFC 9110, 8.8.3.2)
 abbrev pub is_same : Bool → List ℕ → List ℕ → Bool
 is_same weak tag element =
-    (bytes_eq element tag || bytes_eq element (codes "*"))
+    bytes_eq element tag
     || (weak && (nat_le 2 (length element) && (bytes_eq (take 2 element) (codes "W/") && bytes_eq (drop 2 element) tag)))
 
 -- If-Match (13.1.1): what is changed elsewhere isn't wanted
 abbrev pub is_matched : List ℕ → List (List ℕ) → Bool
-is_matched tag fields = not (has_field (codes "if-match") fields) || has_element (codes "if-match") (is_same false tag) fields
+is_matched tag fields = not (has_field (codes "if-match") fields) || names_tag (codes "if-match") (is_same false tag) fields
 
 -- If-None-Match (13.1.2): the client has it already
 abbrev pub is_had : List ℕ → List (List ℕ) → Bool
-is_had tag fields = has_element (codes "if-none-match") (is_same true tag) fields
+is_had tag fields = names_tag (codes "if-none-match") (is_same true tag) fields
 
 abbrev pub is_head : List ℕ → Bool
 is_head method = bytes_eq method (codes "HEAD")

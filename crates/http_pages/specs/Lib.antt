@@ -1,5 +1,6 @@
 pub mod Limits
 pub mod Heads
+pub mod Hosts
 pub mod Requests
 pub mod Ranges
 pub mod Pages
@@ -7,6 +8,7 @@ pub mod Inside
 pub mod Choosing
 pub mod Dates
 pub mod AnswerText
+pub mod Naming
 pub mod Reading
 pub mod Grammars
 pub mod Worked

@@ -49,14 +49,17 @@ pages_in (suc n) (b ∷ bytes) = option_and_then (λ page. onto_pages page.0 (pa
 abbrev pub is_kind : List ℕ → Bool
 is_kind kind = nat_le 1 (length kind) && (nat_le (length kind) most_word && list_all is_value_byte kind)
 
-abbrev pub is_tag_byte : ℕ → Bool
-is_tag_byte b = is_uri_byte b && not (b == comma)
+abbrev pub is_quote : ℕ → Bool
+is_quote b = b == 34
 
--- a strong entity tag without a comma: visible text between quotes
+abbrev pub is_tag_byte : ℕ → Bool
+is_tag_byte b = is_uri_byte b && (not (b == comma) && not (is_quote b))
+
+-- a strong entity tag without a comma: visible text between two quotes
 abbrev pub is_tag : List ℕ → Bool
 is_tag tag =
     (nat_le 2 (length tag) && nat_le (length tag) most_word)
-    && (((slice_index tag 0 == 34) && (slice_index tag (length tag - 1) == 34)) && list_all is_tag_byte tag)
+    && ((is_quote (slice_index tag 0) && is_quote (slice_index tag (length tag - 1))) && list_all is_tag_byte (take (length tag - 2) (drop 1 tag)))
 
 abbrev pub is_path : List ℕ → Bool
 is_path path = (slice_index path 0 == 47) && nat_le (length path) most_path

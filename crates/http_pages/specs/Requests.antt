@@ -1,7 +1,7 @@
 -- What a request's head says (RFC 9112, 3 and 5 to 7), and what of it is refused whatever it asks for.
 use Rattle.std.specs.Prelude.{ℕ, ◌+◌, ◌==◌, nat_lt, Bool, true, false, not, ◌&&◌, ◌||◌, if◌then◌else◌, List, map, length, take, codes, bytes_eq, slice_index, Option, None, Some, Result, Ok, Err}
 use Rattle.std.specs.List.{list_all, list_any, before_first, after_first, filter, slice_split}
-use Rattle.std.specs.Char.{is_ascii_alphanumeric, is_ascii_digit}
+use Rattle.std.specs.Char.{is_ascii_digit}
 use Rattle.httparse.specs.Ascii.{space, colon, comma, digit_zero}
 use Rattle.httparse.specs.Grammar.{is_token, is_uri_byte, is_value_byte, trim_ows}
 use Rattle.http1.specs.Text.{eq_ignore_case}
@@ -14,6 +14,7 @@ use Rattle.http1.specs.declared.framing.FramingError.{FramingError}
 use Rattle.http_pages.specs.declared.answer.Status.{Status}
 use Rattle.http_pages.specs.declared.answer.Status.TheVariants.{BadRequest, NotImplemented, VersionNotSupported}
 use Rattle.http_pages.specs.Heads.{is_filled}
+use Rattle.http_pages.specs.Hosts.{is_host}
 
 abbrev pub is_space : ℕ → Bool
 is_space b = b == space
@@ -76,10 +77,13 @@ known_of fields = known_fields (map header_of fields)
 unfoldable pub list_elements : List ℕ → List (List ℕ)
 list_elements value = filter is_filled (map trim_ows (slice_split is_comma value))
 
--- a field of this name has an element that passes
-abbrev pub has_element : List ℕ → (List ℕ → Bool) → List (List ℕ) → Bool
-has_element name test fields =
-    list_any (λ line. eq_ignore_case (name_of line) name && list_any test (list_elements (value_of line))) fields
+-- a star, which stands for all tags, or a list with an element that passes (RFC 9110, 13.1.1 and 13.1.2)
+abbrev pub has_tag : (List ℕ → Bool) → List ℕ → Bool
+has_tag test value = bytes_eq value (codes "*") || list_any test (list_elements value)
+
+-- a field of this name has such a value
+abbrev pub names_tag : List ℕ → (List ℕ → Bool) → List (List ℕ) → Bool
+names_tag name test fields = list_any (λ line. eq_ignore_case (name_of line) name && has_tag test (value_of line)) fields
 
 -- the values of the fields of this name, in order
 abbrev pub is_named : List ℕ → List ℕ → Bool
@@ -91,17 +95,13 @@ values_of name fields = map value_of (filter (is_named name) fields)
 abbrev pub has_field : List ℕ → List (List ℕ) → Bool
 has_field name fields = list_any (λ line. eq_ignore_case (name_of line) name) fields
 
--- the bytes of a host and a port (RFC 3986, 3.2.2 and 3.2.3)
-abbrev pub is_host_byte : ℕ → Bool
-is_host_byte b = is_ascii_alphanumeric b || list_any (λ c. c == b) (codes "-._~%!$&'()*+,;=:[]")
-
-abbrev pub has_host_bytes : List ℕ → Bool
-has_host_bytes line = not (eq_ignore_case (name_of line) (codes "host")) || list_all is_host_byte (value_of line)
+abbrev pub names_host : List ℕ → Bool
+names_host line = not (eq_ignore_case (name_of line) (codes "host")) || is_host (value_of line)
 
 -- one Host field with 1.1, at most one with 1.0, and only hosts in it (RFC 9112, 3.2)
 abbrev pub has_host : ℕ → List (List ℕ) → Bool
 has_host minor fields =
-    ((known_of fields).hosts == 1 || ((minor == 0) && ((known_of fields).hosts == 0))) && list_all has_host_bytes fields
+    ((known_of fields).hosts == 1 || ((minor == 0) && ((known_of fields).hosts == 0))) && list_all names_host fields
 
 -- content comes behind the head (RFC 9112, 6)
 abbrev pub is_content : Framing → Bool

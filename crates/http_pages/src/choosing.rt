@@ -2,7 +2,7 @@
 
 ghost use Rattle.std.specs.Prelude.{◌≡◌, ◌^◌, ◌-◌, ◌<◌};
 ghost use Rattle.std.specs.Option.{option_copied};
-ghost use Rattle.http_pages.specs.Choosing.{answer, at_folder, at_page, by_conditions, by_fault, by_method, by_path, by_range};
+ghost use Rattle.http_pages.specs.Choosing.{answer, at_folder, at_page, behind_authority, by_conditions, by_fault, by_method, by_path, by_range};
 ghost use Rattle.http_pages.specs.Choosing.{from_slash, has_scheme, is_head, is_known, is_matched, is_served, path_of, plain, refused, unserved, with_part};
 ghost use Rattle.http_pages.specs.Heads.{lines};
 ghost use Rattle.http_pages.specs.Pages.{page_named};
@@ -10,6 +10,7 @@ ghost use Rattle.http_pages.specs.Requests.{fault_of, has_content, known_of, met
 
 use crate::answer::{Answer, Status};
 use crate::cuts::{cut, next_line, place_of};
+use crate::hosts::is_authority;
 use crate::pages::Pages;
 use crate::ranges::{Wanted, wanted_part};
 use crate::requests::{
@@ -109,6 +110,17 @@ fn from_slash(rest: &[u8]) -> &[u8]
     }
 }
 
+/// The path behind the authority of an http URI, where that is one.
+fn behind_authority(rest: &[u8]) -> Option<&[u8]>
+    ensures { option_copied result ≡ behind_authority rest.now }
+{
+    if is_authority(cut(rest, b'/').0) {
+        Some(from_slash(rest))
+    } else {
+        None
+    }
+}
+
 /// The path of a target, without its query (RFC 9112, 3.2.1 and 3.2.2).
 #[tactic(auto, unfolding(crate::specs::Choosing::path_of))]
 fn path_of(target: &[u8]) -> Option<&[u8]>
@@ -117,7 +129,7 @@ fn path_of(target: &[u8]) -> Option<&[u8]>
     if matches!(target, [b'/', ..]) {
         Some(cut(target, b'?').0)
     } else if has_scheme(target) {
-        Some(from_slash(cut(target.split_at(7).1, b'?').0))
+        behind_authority(cut(target.split_at(7).1, b'?').0)
     } else {
         None
     }

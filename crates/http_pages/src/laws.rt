@@ -1,11 +1,12 @@
 //! What holds of all answers: each law is a function that does nothing, whose contract is the law.
 
-ghost use Rattle.std.specs.Prelude.{◌≡◌, ◌<◌, ◌≤◌, ◌++◌, ◌-◌, ℕ, List, length, take, drop, Some};
+ghost use Rattle.std.specs.Prelude.{◌≡◌, ◌<◌, ◌≤◌, ◌++◌, ◌-◌, ℕ, true, List, length, take, drop, Some};
 ghost use Rattle.httparse.specs.Grammar.{RequestHead, ReadsRequest};
 ghost use Rattle.http_pages.specs.AnswerText.{answer_text, content};
 ghost use Rattle.http_pages.specs.Choosing.{nth_page};
 ghost use Rattle.http_pages.specs.Grammars.{IsHead, IsNarrow, SaysAs};
 ghost use Rattle.http_pages.specs.Limits.{most_head};
+ghost use Rattle.http_pages.specs.Naming.{TellsOfTarget, tells_of_page};
 ghost use Rattle.http_pages.specs.Pages.{Page};
 ghost use Rattle.http_pages.specs.Reading.{answer_to};
 ghost use Rattle.http_pages.specs.declared.answer.Answer.{Answer};
@@ -21,12 +22,15 @@ pub fn answers_stand()
     ensures long { (pages : List Page) (a : Answer) → 64 ≤ length (answer_text pages a) }
 {}
 
-/// Behind 200 stands all of its page. Behind 206 stands a part of it, a byte at least, so the place that is told (RFC 9110, 14.4) is one.
+/// Behind 200 stands all of its page. Behind 206 stands a part of it, a byte at least, so the place that is told (RFC 9110, 14.4) is one. The page
+/// of an answer lies where the target says, and where 404 is answered none lies there.
 pub fn pages_are_sent()
     ensures whole { (pages : List Page) (at : ℕ) (bytes : List ℕ) (found : Answer × ℕ) → answer_to pages at bytes ≡ Some found → found.0.status ≡ status.Ok
         → content pages found.0 ≡ (nth_page pages found.0.page).body }
     ensures part { (pages : List Page) (at : ℕ) (bytes : List ℕ) (found : Answer × ℕ) → answer_to pages at bytes ≡ Some found → found.0.status ≡ status.PartialContent
         → (found.0.from < found.0.to) × (found.0.to ≤ length (nth_page pages found.0.page).body) }
+    ensures named { (pages : List Page) (at : ℕ) (bytes : List ℕ) (found : Answer × ℕ) → answer_to pages at bytes ≡ Some found
+        → tells_of_page found.0.status ≡ true → TellsOfTarget pages (take found.1 (take most_head bytes)) found.0 }
 {}
 
 /// The heads of the kit's grammar (RFC 9112, 2 to 5) are those here of HTTP/1.0 and HTTP/1.1 whose target is UTF-8, and they say the same:

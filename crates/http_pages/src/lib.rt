@@ -9,6 +9,7 @@ mod choosing;
 mod cuts;
 mod dates;
 mod heads;
+mod hosts;
 mod laws;
 mod pages;
 mod ranges;

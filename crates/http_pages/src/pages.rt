@@ -162,7 +162,8 @@ fn is_kind(kind: &[u8]) -> bool
 fn are_tag_bytes(tag: &[u8]) -> bool
     ensures { result ≡ list_all is_tag_byte tag.now }
 {
-    tag.iter().all(|b| is_uri_token(*b) && *b != b',')
+    tag.iter()
+        .all(|b| is_uri_token(*b) && *b != b',' && *b != b'"')
 }
 
 fn is_tag(tag: &[u8]) -> bool
@@ -172,7 +173,7 @@ fn is_tag(tag: &[u8]) -> bool
         && tag.len() <= MOST_WORD
         && tag[0] == b'"'
         && tag[tag.len() - 1] == b'"'
-        && are_tag_bytes(tag)
+        && are_tag_bytes(tag.split_at(1).1.split_at(tag.len() - 2).0)
 }
 
 fn is_path(path: &[u8]) -> bool

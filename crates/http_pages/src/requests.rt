@@ -6,12 +6,13 @@ ghost use Rattle.httparse.specs.Grammar.{is_uri_byte};
 ghost use Rattle.http1.specs.Framing.{method_kind, request_framing};
 ghost use Rattle.http_pages.specs.Choosing.{is_same};
 ghost use Rattle.http_pages.specs.Heads.{lines};
-ghost use Rattle.http_pages.specs.Requests.{fault_of, framing_fault, framing_of, has_content, has_element, has_field, has_host, has_host_bytes};
-ghost use Rattle.http_pages.specs.Requests.{is_content, is_field_line, is_host_byte, is_major_one, is_request_line, is_version, keeps, known_of};
+ghost use Rattle.http_pages.specs.Requests.{fault_of, framing_fault, framing_of, has_content, has_field, has_host, has_tag};
+ghost use Rattle.http_pages.specs.Requests.{is_content, is_field_line, is_major_one, is_request_line, is_version, keeps, known_of, names_host, names_tag};
 ghost use Rattle.http_pages.specs.Requests.{list_elements, method_of, minor_of, name_of, target_of, value_of, values_of, version_of};
 
 use crate::answer::Status;
 use crate::cuts::{cut, next_element, next_line, trimmed};
+use crate::hosts::is_host;
 use http1::fields::KnownFields;
 use http1::framing::{Framing, FramingError, MethodKind, request_framing};
 use http1::text::eq_ignore_case;
@@ -140,12 +141,11 @@ pub fn next_value<'a>(mut fields: &'a [u8], name: &[u8]) -> Option<(&'a [u8], &'
     None
 }
 
-/// Whether an element of a field's list is this tag or a star: by the weak comparison, or by the strong one (RFC 9110, 8.8.3.2).
+/// Whether an element of a field's list is this tag: by the weak comparison, or by the strong one (RFC 9110, 8.8.3.2).
 fn is_same(element: &[u8], tag: &[u8], weak: bool) -> bool
     ensures { result ≡ is_same weak tag.now element.now }
 {
     element == tag
-        || element == b"*".as_slice()
         || (weak
             && element.len() >= 2
             && element.split_at(2).0 == b"W/".as_slice()
@@ -164,13 +164,19 @@ fn names_in(mut value: &[u8], tag: &[u8], weak: bool) -> bool
     false
 }
 
-/// Whether a field of this name has the tag, or a star.
+fn has_tag(value: &[u8], tag: &[u8], weak: bool) -> bool
+    ensures { result ≡ has_tag (is_same weak tag.now) value.now }
+{
+    value == b"*".as_slice() || names_in(value, tag, weak)
+}
+
+/// Whether a field of this name has the tag, or is a star.
 pub fn names_tag(mut fields: &[u8], name: &[u8], tag: &[u8], weak: bool) -> bool
-    ensures { result ≡ has_element name.now (is_same weak tag.now) (lines fields.now) }
+    ensures { result ≡ names_tag name.now (is_same weak tag.now) (lines fields.now) }
 {
     while let Some((line, rest)) = next_line(fields) {
         let (named, value) = header_of(line);
-        if eq_ignore_case(named, name) && names_in(value, tag, weak) {
+        if eq_ignore_case(named, name) && has_tag(value, tag, weak) {
             return true;
         }
         fields = rest;
@@ -178,24 +184,12 @@ pub fn names_tag(mut fields: &[u8], name: &[u8], tag: &[u8], weak: bool) -> bool
     false
 }
 
-fn is_host_byte(b: u8) -> bool
-    ensures { result ≡ is_host_byte b }
-{
-    b.is_ascii_alphanumeric() || b"-._~%!$&'()*+,;=:[]".contains(&b)
-}
-
-fn are_host_bytes(value: &[u8]) -> bool
-    ensures { result ≡ list_all is_host_byte value.now }
-{
-    value.iter().all(|b| is_host_byte(*b))
-}
-
-fn have_host_bytes(mut fields: &[u8]) -> bool
-    ensures { result ≡ list_all has_host_bytes (lines fields.now) }
+fn name_hosts(mut fields: &[u8]) -> bool
+    ensures { result ≡ list_all names_host (lines fields.now) }
 {
     while let Some((line, rest)) = next_line(fields) {
         let (name, value) = header_of(line);
-        if eq_ignore_case(name, b"host") && !are_host_bytes(value) {
+        if eq_ignore_case(name, b"host") && !is_host(value) {
             return false;
         }
         fields = rest;
@@ -207,7 +201,7 @@ fn has_host(minor: u8, fields: &[u8], known: &KnownFields) -> bool
     requires { known.now ≡ known_of (lines fields.now) }
     ensures { result ≡ has_host minor (lines fields.now) }
 {
-    (known.hosts == 1 || (minor == 0 && known.hosts == 0)) && have_host_bytes(fields)
+    (known.hosts == 1 || (minor == 0 && known.hosts == 0)) && name_hosts(fields)
 }
 
 fn framing_of(line: &[u8], known: &KnownFields) -> Result<Framing, FramingError>

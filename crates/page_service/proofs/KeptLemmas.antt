@@ -23,10 +23,10 @@ use Rattle.echo_services.proofs.ServingLemmas.{pumps-valid, enters-valid, enters
 use Rattle.page_service.specs.declared.phase.Phase.{Phase}
 use Rattle.page_service.specs.declared.phase.Phase.TheVariants.{Reads}
 use Rattle.page_service.specs.Protocol.{Protocol, IsProtocol}
-use Rattle.page_service.specs.Pump.{pump}
+use Rattle.page_service.specs.Pump.{Open, pump}
 use Rattle.page_service.specs.Kept.{IsTimeOf, Held, kept_enters, kept_serves, kept_new, service_of}
 use Rattle.page_service.proofs.PumpsLemmas.{pump-pumps}
-use Rattle.page_service.proofs.SentLemmas.{Sent, Open, pump-sends, sent-at}
+use Rattle.page_service.proofs.SentLemmas.{Sent, pump-sends, sent-at}
 use Rattle.page_service.proofs.WorkLemmas.{Adds}
 
 -- the lists beside a block after a step

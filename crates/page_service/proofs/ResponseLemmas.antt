@@ -1,18 +1,13 @@
 -- The answers to what was received: more bytes change none, and one request more has one answer more.
 use Rattle.std.proofs.Common.{◌≡◌, ℕ, ◌≤◌, List, [], ◌∷◌, ◌++◌, Option, None, Some, Bool, true, false, cond, length, take, drop, refl, sym, ap, ◌∙◌, subst, append_assoc, append-nil}
 use Rattle.std.proofs.lemmas.List.{take-append-drop, drop-append-le, drop_all}
-use Rattle.page_service.specs.Protocol.{Protocol, IsProtocol, IsFront, answered, responses}
+use Rattle.page_service.specs.Protocol.{Protocol, IsProtocol, IsFront, KeptAll, answered, responses}
 
 chosen-nil : (b : Bool) (xs : List ℕ) → xs ++ cond b [] [] ≡ xs
 chosen-nil true xs = append-nil xs
 chosen-nil false xs = append-nil xs
 
 module _ {A : Type 0} (p : Protocol A) where
-  -- Each of these requests keeps the connection, and they are all that was read
-  abbrev pub KeptAll : List ℕ → List ℕ → Type 0
-  KeptAll [] bytes = bytes ≡ []
-  KeptAll (at ∷ times) bytes = (found : A × ℕ) × (p.answers at bytes ≡ Some found) × (p.keeps found.0 ≡ true) × KeptAll times (drop found.1 bytes)
-
   abbrev pub IsOwn : ℕ → List ℕ → A × ℕ → Type 0
   IsOwn at head found = (more : List ℕ) → p.answers at (head ++ more) ≡ Some found
 

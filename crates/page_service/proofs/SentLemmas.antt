@@ -13,11 +13,11 @@ use Rattle.echo_services.specs.Closing.{is_close_wait, throws}
 use Rattle.echo_services.specs.Pumping.{may_offer}
 use Rattle.page_service.specs.declared.phase.Phase.{Phase}
 use Rattle.page_service.specs.declared.phase.Phase.TheVariants.{Reads, Answers, Ends}
-use Rattle.page_service.specs.Protocol.{Protocol, IsProtocol, responses}
-use Rattle.page_service.specs.Pump.{Turn, goes, rests, behind, closes, left_from, left_of, more_of, most_turns, pump, reads, said, then_on, turn, turns, waiting}
+use Rattle.page_service.specs.Protocol.{Protocol, IsProtocol, KeptAll, responses}
+use Rattle.page_service.specs.Pump.{Open, Turn, goes, rests, behind, closes, left_from, left_of, more_of, most_turns, pump, reads, said, then_on, turn, turns, waiting}
 use Rattle.page_service.proofs.CloseLemmas.{closed_recv, closed_out}
 use Rattle.page_service.proofs.PumpsLemmas.{found-ready}
-use Rattle.page_service.proofs.ResponseLemmas.{KeptAll, IsOwn, one-more, kept-more}
+use Rattle.page_service.proofs.ResponseLemmas.{IsOwn, one-more, kept-more}
 use Rattle.page_service.proofs.WorkLemmas.{Adds, adds-nothing, adds-taken, adds-offered, adds-both, first-ready}
 
 adds-closed : (b : Block) → Adds b (closes b) (next_bytes (ready_of b.recv) b.recv ++ []) ([] ++ [])
@@ -29,13 +29,6 @@ adds-closed b =
 pub all-more : (P : ℕ → Type 0) (xs : List ℕ) (y : ℕ) → AllByRecursion P xs → P y → AllByRecursion P (xs ++ y ∷ [])
 all-more P [] y h q = (q, tt)
 all-more P (x ∷ xs) y h q = (h.0, all-more P xs y h.1 q)
-
-module _ {A : Type 0} (p : Protocol A) where
-  -- where another request may follow, all that was read had answers
-  abbrev pub Open : List ℕ → List ℕ → Phase A → Type 0
-  Open times read Reads = KeptAll p times read
-  Open times read (Answers a given) = p.keeps a ≡ true → KeptAll p times read
-  Open times read Ends = Unit {0}
 
 module _ {A : Type 0} (p : Protocol A) (P : ℕ → Type 0) where
   -- so much was read at these times, and so much was sent, in this phase

@@ -1,17 +1,17 @@
 -- Serving by a service that keeps something from one pump to the next, with the whole streams beside the block. A connection that is over
 -- leaves a new service to the next one.
-use Rattle.std.specs.Prelude.{◌≡◌, ℕ, ◌⊎◌, List, [], ◌∷◌, if◌then◌else◌}
+use Rattle.std.specs.Prelude.{◌≡◌, ℕ, ◌⊎◌, false, List, [], ◌∷◌, ◌++◌, if◌then◌else◌}
 use Rattle.std.specs.List.{AllByRecursion}
 use Rattle.tcb_machine.specs.BlockState.{Block}
 use Rattle.tcb_machine.specs.CallAnswers.{tcp_call}
 use Rattle.tcb_machine.specs.States.{is_listen}
 use Rattle.tcb_machine.specs.TcpStep.{tcp_segment}
 use Rattle.echo_services.specs.Serving.{Entry, segment, time, asks, kept}
-use Rattle.echo_services.specs.WholeStreams.{Whole, whole_enters, whole_new}
+use Rattle.echo_services.specs.WholeStreams.{Whole, all_offered, whole_enters, whole_new}
 use Rattle.page_service.specs.declared.phase.Phase.{Phase}
 use Rattle.page_service.specs.declared.phase.Phase.TheVariants.{Reads}
-use Rattle.page_service.specs.Protocol.{Protocol}
-use Rattle.page_service.specs.Pump.{pump}
+use Rattle.page_service.specs.Protocol.{Protocol, responses}
+use Rattle.page_service.specs.Pump.{Open, left_of, pump}
 
 pub record Held (S : Type 0) : Type 0 where
   pub whole : Whole
@@ -54,3 +54,11 @@ AreTimesOf es times = AllByRecursion (IsTimeOf es) times
 -- that of a protocol
 abbrev pub service_of : {A : Type 0} → Protocol A → Service (Phase A)
 service_of p = record { pumps = λ w b. (pump p w b).1; after = λ w b. (pump p w b).0; new = Reads }
+
+-- Who serves by a protocol offered the answers to what was taken, in order and each once, each read when a segment came. While our FIN isn't
+-- wanted and another request may follow, what was taken are the requests that were answered, and nothing else
+pub record OffersAnswers {A : Type 0} (p : Protocol A) (es : List Entry) (h : Held (Phase A)) : Type 0 where
+  pub times : List ℕ
+  pub offered : all_offered h.whole ++ left_of p h.service ≡ responses p times h.whole.read
+  pub timely : AreTimesOf es times
+  pub taken : h.whole.block.fin_wanted ≡ false → Open p times h.whole.read h.service

@@ -1,5 +1,5 @@
 -- A protocol of requests and answers, as a service sees it, and what is owed to the requests of a stream.
-use Rattle.std.specs.Prelude.{◌≡◌, ℕ, ◌≤◌, Bool, List, [], ◌∷◌, ◌++◌, length, take, drop, Option, None, Some, if◌then◌else◌}
+use Rattle.std.specs.Prelude.{◌≡◌, ℕ, ◌≤◌, Bool, true, List, [], ◌∷◌, ◌++◌, length, take, drop, Option, None, Some, if◌then◌else◌}
 
 pub record Protocol (A : Type 0) : Type 0 where
   -- at a time, the answer to the request in front of these bytes, and how many bytes that has; None where it isn't whole
@@ -29,3 +29,8 @@ module _ {A : Type 0} (p : Protocol A) where
   abbrev pub responses : List ℕ → List ℕ → List ℕ
   responses [] received = []
   responses (at ∷ times) received = answered (responses times) received (p.answers at received)
+
+  -- what was received are whole requests, one for each of these times, and each keeps the connection
+  abbrev pub KeptAll : List ℕ → List ℕ → Type 0
+  KeptAll [] received = received ≡ []
+  KeptAll (at ∷ times) received = (found : A × ℕ) × (p.answers at received ≡ Some found) × (p.keeps found.0 ≡ true) × KeptAll times (drop found.1 received)

@@ -10,7 +10,7 @@ use Rattle.echo_services.specs.Closing.{is_close_wait, throws}
 use Rattle.echo_services.specs.Pumping.{may_offer}
 use Rattle.page_service.specs.declared.phase.Phase.{Phase}
 use Rattle.page_service.specs.declared.phase.Phase.TheVariants.{Reads, Answers, Ends}
-use Rattle.page_service.specs.Protocol.{Protocol}
+use Rattle.page_service.specs.Protocol.{Protocol, KeptAll}
 
 -- how many turns a pump has at most. It never needs as many: an answer takes two, and 64 bytes of the room, which is 65,535 at most
 abbrev pub most_turns : ℕ
@@ -80,6 +80,12 @@ module _ {A : Type 0} (p : Protocol A) where
   left_of Reads = []
   left_of (Answers a given) = left_from a given
   left_of Ends = []
+
+  -- where another request may follow, all that was taken are requests that have their answers
+  abbrev pub Open : List ℕ → List ℕ → Phase A → Type 0
+  Open times read Reads = KeptAll p times read
+  Open times read (Answers a given) = p.keeps a ≡ true → KeptAll p times read
+  Open times read Ends = Unit {0}
 
   -- Nothing waits that could go: no whole request is there, and the peer hasn't closed; or an answer is under way, and there is no room; or
   -- all is over

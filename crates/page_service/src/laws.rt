@@ -5,10 +5,10 @@ ghost use Rattle.std.specs.Prelude.{◌≡◌, ℕ, true, false, List, ◌++◌}
 ghost use Rattle.tcb_machine.specs.BlockState.{Block};
 ghost use Rattle.echo_services.specs.Pumping.{IsPump, may_offer};
 ghost use Rattle.echo_services.specs.Serving.{Entry};
-ghost use Rattle.echo_services.specs.WholeStreams.{AreEntries, all_offered};
+ghost use Rattle.echo_services.specs.WholeStreams.{AreEntries};
 ghost use Rattle.page_service.specs.Protocol.{Protocol, IsProtocol, IsFront, responses};
-ghost use Rattle.page_service.specs.Pump.{RestsAt, left_of, pump};
-ghost use Rattle.page_service.specs.Kept.{AreTimesOf, kept_serves, kept_new, service_of};
+ghost use Rattle.page_service.specs.Pump.{RestsAt, pump};
+ghost use Rattle.page_service.specs.Kept.{OffersAnswers, kept_serves, kept_new, service_of};
 ghost use Rattle.page_service.specs.declared.phase.Phase.{Phase};
 
 /// The pump is such as the laws of served connections speak of: a block stays valid, and a segment adds little.
@@ -17,12 +17,11 @@ pub fn answers_are_a_pump<A>()
 {}
 
 /// Whatever came, in whatever pieces and at whatever times: what was offered since LISTEN, with what is left of the answer under way, is
-/// the answers to the requests that were taken, in order and each once, each read when a segment came. More bytes and times only go on
-/// behind them.
+/// the answers to the requests that were taken, in order and each once, each read when a segment came. While our FIN isn't wanted, nothing
+/// was taken that has no answer, unless the answer under way is the last. More bytes and times only go on behind them.
 pub fn answers_come_in_order<A>()
-    ensures sent { (p : Protocol A) (es : List Entry) → IsProtocol p → AreEntries es →
-        let h = kept_serves (service_of p) es (kept_new (service_of p)) in
-        (times : List ℕ) × (all_offered h.whole ++ left_of p h.service ≡ responses p times h.whole.read) × AreTimesOf es times }
+    ensures sent { (p : Protocol A) (es : List Entry) → IsProtocol p → AreEntries es
+        → OffersAnswers p es (kept_serves (service_of p) es (kept_new (service_of p))) }
     ensures goes_on { (p : Protocol A) (times more bytes rest : List ℕ) → IsProtocol p → IsFront (responses p times bytes) (responses p (times ++ more) (bytes ++ rest)) }
 {}
 

@@ -5,11 +5,11 @@ ghost use Rattle.http_pages.specs.Pages.{Page};
 ghost use Rattle.tcb_machine.specs.BlockState.{Block};
 ghost use Rattle.echo_services.specs.Pumping.{IsPump, may_offer};
 ghost use Rattle.echo_services.specs.Serving.{Entry};
-ghost use Rattle.echo_services.specs.WholeStreams.{AreEntries, all_offered};
+ghost use Rattle.echo_services.specs.WholeStreams.{AreEntries};
 ghost use Rattle.http_pages.specs.declared.answer.Answer.{Answer};
-ghost use Rattle.page_service.specs.Kept.{AreTimesOf, kept_serves, kept_new, service_of};
+ghost use Rattle.page_service.specs.Kept.{OffersAnswers, kept_serves, kept_new, service_of};
 ghost use Rattle.page_service.specs.Protocol.{IsFront, responses};
-ghost use Rattle.page_service.specs.Pump.{RestsAt, left_of, pump};
+ghost use Rattle.page_service.specs.Pump.{RestsAt, pump};
 ghost use Rattle.page_service.specs.Site.{site};
 ghost use Rattle.page_service.specs.declared.phase.Phase.{Phase};
 
@@ -52,13 +52,14 @@ impl Answerer for Pages {
 }
 
 /// Whatever comes, in whatever pieces and at whatever times: what a connection's service has offered, with what is left of the answer under
-/// way, is the answers of these pages to the requests that it took, in order and each once, each at the time of a segment; more bytes and
-/// times only go on behind them. Behind a pump nothing waits that could go.
+/// way, is the answers of these pages to the requests that it took, in order and each once, each at the time of a segment. While our FIN isn't
+/// wanted, it took nothing that has no answer, unless the answer under way is the last. More bytes and times only go on behind them. Behind a
+/// pump nothing waits that could go.
 pub fn pages_answer_what_came()
-    ensures sent { (pages : List Page) (es : List Entry) → AreEntries es →
-        let h = kept_serves (service_of (site pages)) es (kept_new (service_of (site pages))) in
-        (times : List ℕ) × (all_offered h.whole ++ left_of (site pages) h.service ≡ responses (site pages) times h.whole.read) × AreTimesOf es times }
-    ensures goes_on { (pages : List Page) (times more bytes rest : List ℕ) → IsFront (responses (site pages) times bytes) (responses (site pages) (times ++ more) (bytes ++ rest)) }
+    ensures sent { (pages : List Page) (es : List Entry) → AreEntries es
+        → OffersAnswers (site pages) es (kept_serves (service_of (site pages)) es (kept_new (service_of (site pages)))) }
+    ensures goes_on { (pages : List Page) (times more bytes rest : List ℕ)
+        → IsFront (responses (site pages) times bytes) (responses (site pages) (times ++ more) (bytes ++ rest)) }
     ensures rests { (pages : List Page) (w : Phase Answer) (b : Block) → b.fin_wanted ≡ false → may_offer b.state ≡ true
         → RestsAt (site pages) (pump (site pages) w b).0 (pump (site pages) w b).1 }
     ensures pump { (pages : List Page) (w : Phase Answer) → IsPump (λ b. (pump (site pages) w b).1) }

@@ -6,7 +6,7 @@ use Rattle.page_service.proofs.RestLemmas.{pump-rests}
 use Rattle.page_service.proofs.site.pages_answer_what_came.Goals as goal
 
 pub returns-clause-sent : goal.returns-clause-sent
-returns-clause-sent c = λ pages es i. let s = answers-come (site pages) (site-sound pages) es i in (s.times, s.sends.same, s.sends.timely)
+returns-clause-sent c = λ pages es i. let s = answers-come (site pages) (site-sound pages) es i in record { times = s.times; offered = s.sends.same; timely = s.sends.timely; taken = s.opens }
 
 pub returns-clause-goes_on : goal.returns-clause-goes_on
 returns-clause-goes_on c = λ pages. goes-on (site pages) (site-sound pages)
