@@ -1,0 +1,13 @@
+-- The feeds of a ring at a squeue, and their limits.
+use Rattle.std.specs.Prelude.{ℕ, ◌-◌, ◌^◌, [], replicate}
+use Rattle.perimeter_core.specs.History.{Limits}
+use Rattle.shards.specs.declared.counting.Counted.{Counted}
+use Rattle.shards.specs.declared.counting.Counting.{Counting}
+
+-- how many feeds a ring has had since its part was put in
+abbrev pub had_of : Counted → ℕ
+had_of p = p.had
+
+-- each ring may have so many feeds after its part was put in, and the part may leave so often
+abbrev pub limits_of : Counting → Limits
+limits_of r = record { feeds = replicate r.count (2 ^ 32 - 1); leaves = replicate r.count (2 ^ 52); calls = [] }
