@@ -9,5 +9,8 @@ abbrev pub had_of : Counted → ℕ
 had_of p = p.had
 
 -- each ring may have so many feeds after its part was put in, and the part may leave so often
+abbrev pub ring_limits : ℕ → Limits
+ring_limits rings = record { feeds = replicate rings (2 ^ 32 - 1); leaves = replicate rings (2 ^ 52); calls = [] }
+
 abbrev pub limits_of : Counting → Limits
-limits_of r = record { feeds = replicate r.count (2 ^ 32 - 1); leaves = replicate r.count (2 ^ 52); calls = [] }
+limits_of r = ring_limits r.count

@@ -27,7 +27,8 @@ pub struct Shard<X: Shared + Drop, H: Wait + Drop> {
 
 impl<X: Shared + Drop, H: Wait + Drop> Shard<X, H> {
     ghost use Rattle.placed_parts.specs.Standing.{all_new};
-    ghost use Rattle.shards.specs.Sharing.{StandsFor, ends_of, rings_of, first_ends, shared_of};
+    ghost use Rattle.shards.specs.Numbering.{ring_limits};
+    ghost use Rattle.shards.specs.Sharing.{StandsFor, ends_of, first_ends, limits_for, rings_of, shared_of};
 
     /// All rings are here, one for each lane, and nothing came by any. After an error all is dropped.
     pub fn of(
@@ -41,6 +42,7 @@ impl<X: Shared + Drop, H: Wait + Drop> Shard<X, H> {
         requires made { X.is_made [] shared }
         ensures stands { IfOk result (λ r. StandsFor r (all_new (length ends.items))) }
         ensures rings { IfOk result (λ r. rings_of r ≡ length ends.items) }
+        ensures limits { IfOk result (λ r. limits_for r ≡ ring_limits (length ends.items)) }
         ensures shared { IfOk result (λ r. shared_of r ≡ shared) }
         ensures ends { IfOk result (λ r. ends_of r ≡ ends.items) }
         ensures first { IfOk result (λ r. first_ends r ≡ ends) }
