@@ -61,7 +61,7 @@ placed_short now iss s text c alive valid h =
     let n = max least_mss c.most in
     let j = judged now s text c in
     let its : Short n c.tcb = record { agreed = h.agreed; sent = h.sent } in
-    let says = placed_says n now iss (seen s c.tcb (eased s text c.tcb c.congestion)) text c.tcb alive its in
+    let says = placed_says n now iss (seen s c.tcb (eased s c.tcb c.congestion)) text c.tcb alive its in
     let one = after_short n (omega arith) j now iss s text c says valid its in
     let same = kept_most j now iss s text c in (
       record {
@@ -177,7 +177,7 @@ module _ (x : TooLong) (sv : ServerOf) (table : IsTable sv) where
 
   at_sent : (i : ℕ) → AreOfEnds x.ends (shortens_at x i sv).sent
   unfolding shortens_at becomes
-  at_sent i = of_replies x.ends _ _
+  at_sent i = of_replies x.ends _ _ _
 
   all_table : (b : Bool) (r : Option ℕ) → is_to_us sv.setting x.src x.dst ≡ b → place_of x.ends sv.conns ≡ r → IsTable (on_too_long x sv).server
   all_table false r e at = subst (λ (o : Outcome). IsTable o.server) (sym (told_by false r e at)) (record { once = table.once; bounded = table.bounded })

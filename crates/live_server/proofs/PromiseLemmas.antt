@@ -9,10 +9,11 @@ use Rattle.segment_codec.specs.Refusal.{tuple_of}
 use Rattle.segment_codec.specs.declared.packet.Seg.{Seg}
 use Rattle.sq_base.specs.declared.kinds.Tuple.{Tuple}
 use Rattle.tcb_machine.specs.BlockState.{Block, has}
-use Rattle.live_server.specs.Acts.{after, emptied, is_over, judged, new_conn, provokes, reached, taken, takes, ticked}
-use Rattle.live_server.specs.Congestion.{eased, grown, halved, is_duplicate, is_fresh, reaches, recovers, repeated, seen_window, timed_out, tolerance}
+use Rattle.tcb_machine.specs.Challenges.{is_syn_received}
+use Rattle.live_server.specs.Acts.{after, allowed, bared, challenged, emptied, is_allowed, is_over, judged, new_conn, provokes, reached, taken, takes, ticked}
+use Rattle.live_server.specs.Congestion.{begun, eased, grown, halved, is_at_recover, is_duplicate, is_fresh, reaches, recovers, repeated, seen_window, timed_out, tolerance}
 use Rattle.live_server.specs.Limits.{challenge_interval}
-use Rattle.live_server.specs.Promises.{ChallengesAreApart, Coming, FirstIsWide, IsWide, SegmentKeepsWide, ShownIsNarrow, TextIsBounded, TextIsCounted, TimeCountsAnew, TimeoutIsWide, came, challenges, segment, time, when_challenged}
+use Rattle.live_server.specs.Promises.{BeginsBeyondRecover, ChallengesAreApart, Coming, FirstIsWide, IsWide, SegmentKeepsWide, ShownIsNarrow, TextIsBounded, TextIsCounted, TimeCountsAnew, TimeoutIsWide, came, challenges, segment, time, when_challenged}
 use Rattle.live_server.specs.Serving.{ServerOf, admits, becomes, comes, fits, gives_way, goes_on, has_place, heeded, heeded_text, heeds, holding, is_waiting, makes_place, noting, on_segment, on_time, opens, overfull, refuses, sends_nothing, sends_of, served, takes_free, takes_place, time_to, turns_away, yielding, yields, yields_at}
 use Rattle.live_server.specs.Services.{service_at}
 use Rattle.live_server.specs.Table.{conn_at, place_of}
@@ -158,11 +159,19 @@ ticked_quiet : (measures : Measures) (now : ℕ) (c : Conn) → (emptied (ticked
 unfolding emptied
 ticked_quiet measures now c = refl
 
+allowed_quiet : (now iss : ℕ) (s : Seg) (c : Conn) → (allowed now iss s c).quiet_until ≡ c.quiet_until
+unfolding allowed taken
+allowed_quiet now iss s c = by (is_allowed s c.tcb)
+  where
+    by : (b : Bool) → (cond b (taken now iss (bared s c.tcb) [] c) c).quiet_until ≡ c.quiet_until
+    by true = refl
+    by false = refl
+
 came_quiet : (j : Judged) (now iss : ℕ) (s : Seg) (text : List ℕ) (c : Conn) → (emptied (after j now iss s text c)).quiet_until ≡ (elim j [ Taken ↦ c.quiet_until | Challenged ↦ now + challenge_interval | Unanswered ↦ c.quiet_until | Late ↦ c.quiet_until ])
-unfolding emptied after taken
+unfolding emptied after taken challenged
 came_quiet Taken now iss s text c = refl
 came_quiet Challenged now iss s text c = refl
-came_quiet Unanswered now iss s text c = refl
+came_quiet Unanswered now iss s text c = allowed_quiet now iss s c
 came_quiet Late now iss s text c = refl
 
 -- behind a segment, where the rest is spaced behind what it left
@@ -221,13 +230,55 @@ grown_wide n b x wide = wide
 
 repeated_wide : (b : Block) (x : Congestion) → IsWide b x → IsWide b (repeated b x)
 unfolding repeated
-repeated_wide b x wide = chosen_wide b x.recovering _ _ wide (chosen_wide b (nat_lt (x.duplicates + 1) (tolerance b)) _ _ wide (halved_wide b))
+repeated_wide b x wide =
+    chosen_wide b x.recovering _ _ wide
+    (chosen_wide b (is_at_recover b x) _ _ wide (chosen_wide b (nat_lt (x.duplicates + 1) (tolerance b)) _ _ wide (halved_wide b)))
+
+begun_wide : (b : Block) (x : Congestion) → IsWide b x → IsWide b (begun b x)
+unfolding begun
+begun_wide b x wide = chosen_wide b x.recovering _ _ wide wide
 
 pub segment_wide : SegmentKeepsWide
 unfolding eased
-segment_wide s text b x wide =
-    chosen_wide b (is_fresh s b) _ _ (chosen_wide b x.recovering _ _ (recovers_wide _ s b x wide) (grown_wide _ b x wide))
-    (chosen_wide b (is_duplicate s text b x) _ _ (repeated_wide b x wide) wide)
+segment_wide s b x wide =
+    chosen_wide b (is_syn_received b.state) _ _ (begun_wide b x wide)
+    (chosen_wide b (is_fresh s b) _ _ (chosen_wide b x.recovering _ _ (recovers_wide _ s b x wide) (grown_wide _ b x wide))
+    (chosen_wide b (is_duplicate s b x) _ _ (repeated_wide b x wide) wide))
+
+-- ---- recovery
+quiet_chosen : (which : Bool) (x y : Congestion) → x.recovering ≡ false → y.recovering ≡ false → (cond which x y).recovering ≡ false
+quiet_chosen true x y here there = here
+quiet_chosen false x y here there = there
+
+-- where there is none, its own branch isn't taken
+quiet_rest : (x y z : Congestion) → x.recovering ≡ false → z.recovering ≡ false → (cond x.recovering y z).recovering ≡ false
+quiet_rest x y z none there = subst (λ (which : Bool). (cond which y z).recovering ≡ false) (sym none) there
+
+-- and where a test holds, its branch is
+quiet_where : (which : Bool) (x z : Congestion) → which ≡ true → x.recovering ≡ false → (cond which x z).recovering ≡ false
+quiet_where true x z e none = none
+quiet_where false x z e none = absurd (true≢false (sym e))
+
+begun_quiet : (b : Block) (x : Congestion) → x.recovering ≡ false → (begun b x).recovering ≡ false
+unfolding begun
+begun_quiet b x none = quiet_chosen x.recovering _ _ none none
+
+grown_quiet : (n : ℕ) (b : Block) (x : Congestion) → x.recovering ≡ false → (grown n b x).recovering ≡ false
+unfolding grown
+grown_quiet n b x none = none
+
+repeated_quiet : (b : Block) (x : Congestion) → x.recovering ≡ false → b.una ≡ x.recover → (repeated b x).recovering ≡ false
+unfolding repeated
+repeated_quiet b x none there =
+    let at : is_at_recover b x ≡ true = grind (arith, nat_tests, there) in
+    quiet_rest x _ _ none (quiet_where (is_at_recover b x) x _ at none)
+
+pub begins_beyond : BeginsBeyondRecover
+unfolding eased
+begins_beyond s b x none there =
+    quiet_chosen (is_syn_received b.state) _ _ (begun_quiet b x none)
+    (quiet_chosen (is_fresh s b) _ _ (quiet_rest x _ _ none (grown_quiet _ b x none))
+    (quiet_chosen (is_duplicate s b x) _ _ (repeated_quiet b x none there) none))
 
 pub shown_narrow : ShownIsNarrow
 unfolding seen_window

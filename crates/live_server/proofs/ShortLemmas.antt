@@ -8,6 +8,7 @@ use Rattle.segment_codec.specs.declared.packet.Reply.{Reply}
 use Rattle.segment_codec.specs.declared.packet.Seg.{Seg}
 use Rattle.tcb_machine.specs.Agreed.{send_mss}
 use Rattle.tcb_machine.specs.BlockState.{Block, has, in_flight, new_block, rcv_nxt, rst_of, segment_of, sends, sends_ack, snd_end, snd_nxt, syn_ack_of, to_listen, unsent}
+use Rattle.tcb_machine.specs.Challenges.{is_syn_received}
 use Rattle.tcb_machine.specs.CallAnswers.{close_in, tcp_call, wants_fin}
 use Rattle.tcb_machine.specs.Forgetting.{forgetting}
 use Rattle.tcb_machine.specs.Limits.{least_mss, most_retransmissions}
@@ -26,7 +27,7 @@ use Rattle.echo_services.specs.Serving.{followed}
 use Rattle.echo_services.proofs.PumpsLemmas.{chargen-pumps, daytime-pumps, discard-pumps, echo-pumps}
 use Rattle.page_service.specs.Site.{site, site-sound}
 use Rattle.page_service.proofs.PumpsLemmas.{pump-pumps}
-use Rattle.live_server.specs.Acts.{after, closed, judged, pruned, reaches, renewed, resent, taken}
+use Rattle.live_server.specs.Acts.{after, allowed, bared, challenged, closed, is_allowed, is_outside, is_over, is_waited_for, judged, pruned, reaches, renewed, resent, taken}
 use Rattle.live_server.specs.Congestion.{calls_again, eased, seen}
 use Rattle.live_server.specs.DaytimeText.{daytime_text}
 use Rattle.live_server.specs.Promises.{NewIsShort, SegmentKeepsShort, TimeKeepsShort}
@@ -435,32 +436,66 @@ module _ (n : ℕ) (some : 1 ≤ n) where
 
   -- what its block makes of a segment, as the block sees that
   abbrev SaysOf : ℕ → ℕ → Seg → List ℕ → Conn → Type 0
-  SaysOf now iss s text c = Says n (tcp_segment now iss (seen s c.tcb (eased s text c.tcb c.congestion)) text c.tcb)
+  SaysOf now iss s text c = Says n (tcp_segment now iss (seen s c.tcb (eased s c.tcb c.congestion)) text c.tcb)
 
   taken_short : (now iss : ℕ) (s : Seg) (text : List ℕ) (c : Conn) → SaysOf now iss s text c → IsValid c.tcb → Short n (taken now iss s text c).tcb
   unfolding taken
   taken_short now iss s text c says valid =
-      let t = seen s c.tcb (eased s text c.tcb c.congestion) in
+      let t = seen s c.tcb (eased s c.tcb c.congestion) in
       let b = followed (pump_of c.service) (tcp_segment now iss t text c.tcb) in
       let one = followed_short (pump_of c.service) (pumps_of c.service) (record c.tcb { clock = now }) (tcp_segment now iss t text c.tcb) (segment-says now iss t text c.tcb valid) says in
-      resent_short (calls_again s text c.tcb c.congestion) (renewed c.tcb.una s.wnd b) (renewed_short c.tcb.una s.wnd b one)
+      resent_short (calls_again s c.tcb c.congestion) (renewed c.tcb.una s.wnd b) (renewed_short c.tcb.una s.wnd b one)
+
+  -- where a closed window lets it count
+  allowed_open : (s : Seg) (b : Block) → is_allowed s b ≡ true → is_listen b.state ≡ false
+  unfolding is_allowed
+  allowed_open s b e = by (has s.flags rst || has s.flags syn) (has s.flags ack) (is_listen b.state) (is_syn_received b.state) (not (is_outside s b) && is_waited_for s b) e
+    where
+      by : (x y l r z : Bool) → cond x false (y && (not (l || r) && z)) ≡ true → l ≡ false
+      by true y l r z e = absurd (false≢true e)
+      by false true true r z e = absurd (false≢true e)
+      by false true false r z e = refl
+      by false false l r z e = absurd (false≢true e)
+
+  allowed_short : (now iss : ℕ) (s : Seg) (c : Conn) → IsValid c.tcb → Short n c.tcb → Short n (allowed now iss s c).tcb
+  unfolding allowed
+  allowed_short now iss s c valid h = by (is_allowed s c.tcb) refl
+    where
+      t : Seg
+      t = bared s c.tcb
+
+      by : (b : Bool) → is_allowed s c.tcb ≡ b → Short n (cond b (taken now iss t [] c) c).tcb
+      by true e = taken_short now iss t [] c (placed_says n now iss (seen t c.tcb (eased t c.tcb c.congestion)) [] c.tcb (allowed_open s c.tcb e) h) valid
+      by false e = h
+
+  challenged_short : (now : ℕ) (c : Conn) → Short n c.tcb → Short n (challenged now c).tcb
+  unfolding challenged
+  challenged_short now c h = short_cond n (is_over c) c.tcb (sends_ack c.tcb) h (ack_short n c.tcb h)
 
   pub after_short : (j : Judged) (now iss : ℕ) (s : Seg) (text : List ℕ) (c : Conn) → SaysOf now iss s text c → IsValid c.tcb → Short n c.tcb → Short n (after j now iss s text c).tcb
   unfolding after
   after_short Taken now iss s text c says valid h = taken_short now iss s text c says valid
-  after_short Challenged now iss s text c says valid h = ack_short n c.tcb h
-  after_short Unanswered now iss s text c says valid h = h
+  after_short Challenged now iss s text c says valid h = challenged_short now (allowed now iss s c) (allowed_short now iss s c valid h)
+  after_short Unanswered now iss s text c says valid h = allowed_short now iss s c valid h
   after_short Late now iss s text c says valid h = h
 
   reached_short : (now : ℕ) (b : Block) → IsValid b → Short n b → Short n (reaches now b)
   unfolding reaches
   reached_short now b valid h = short_cond n (nat_le b.clock now) (tcp_time now b) b (time_short n some now b valid h) h
 
+allowed_most : (now iss : ℕ) (s : Seg) (c : Conn) → (allowed now iss s c).most ≡ c.most
+unfolding allowed taken
+allowed_most now iss s c = by (is_allowed s c.tcb)
+  where
+    by : (b : Bool) → (cond b (taken now iss (bared s c.tcb) [] c) c).most ≡ c.most
+    by true = refl
+    by false = refl
+
 pub kept_most : (j : Judged) (now iss : ℕ) (s : Seg) (text : List ℕ) (c : Conn) → (after j now iss s text c).most ≡ c.most
-unfolding after taken
+unfolding after taken challenged
 kept_most Taken now iss s text c = refl
-kept_most Challenged now iss s text c = refl
-kept_most Unanswered now iss s text c = refl
+kept_most Challenged now iss s text c = allowed_most now iss s c
+kept_most Unanswered now iss s text c = allowed_most now iss s c
 kept_most Late now iss s text c = refl
 
 limited_mss : (most : ℕ) (s : Seg) → send_mss (limited most s).options.mss ≤ max least_mss most
@@ -476,7 +511,7 @@ segment_short now iss s text c valid h =
     let t = limited c.most s in
     let j = judged now t text c in
     let its : Short n c.tcb = record { agreed = h.agreed; sent = h.sent } in
-    let says = segment_says n (seen t c.tcb (eased t text c.tcb c.congestion)) (limited_mss c.most s) now iss text c.tcb its in
+    let says = segment_says n (seen t c.tcb (eased t c.tcb c.congestion)) (limited_mss c.most s) now iss text c.tcb its in
     let one = after_short n (omega arith) j now iss t text c says valid its in
     let same = kept_most j now iss t text c in
     record {

@@ -10,7 +10,7 @@ use Rattle.segment_codec.specs.SegmentBytes.{segment_bytes}
 use Rattle.segment_codec.specs.declared.packet.Reply.{Reply}
 use Rattle.segment_codec.specs.declared.packet.Seg.{Seg}
 use Rattle.sq_base.specs.declared.kinds.Tuple.{Tuple}
-use Rattle.tcb_machine.specs.BlockState.{Block, has, new_block, offered, sends_ack, snd_nxt}
+use Rattle.tcb_machine.specs.BlockState.{Block, has, new_block, offered, rcv_nxt, rcv_wnd, sends_ack, snd_nxt}
 use Rattle.tcb_machine.specs.CallAnswers.{tcp_call}
 use Rattle.tcb_machine.specs.Challenges.{is_challenged, is_syn_received}
 use Rattle.tcb_machine.specs.Forgetting.{forgetting}
@@ -19,7 +19,7 @@ use Rattle.tcb_machine.specs.States.{is_listen}
 use Rattle.tcb_machine.specs.TcpStep.{tcp_segment}
 use Rattle.tcb_machine.specs.Timers.{retransmits, tcp_time}
 use Rattle.tcb_machine.specs.declared.kinds.Call.TheVariants.{Close}
-use Rattle.live_server.specs.Congestion.{calls_again, eased, no_congestion, seen, timed_out}
+use Rattle.live_server.specs.Congestion.{calls_again, eased, is_open, no_congestion, seen, timed_out}
 use Rattle.live_server.specs.declared.congestion.Congestion.{Congestion}
 use Rattle.live_server.specs.Limits.{challenge_interval}
 use Rattle.live_server.specs.Services.{after_pump, pump_of}
@@ -80,10 +80,10 @@ is_outside s b =
     else if has s.flags rst || has s.flags syn then false
     else has s.flags ack && nat_lt (dist (oldest_ack b) (snd_nxt b)) (dist (oldest_ack b) s.ack)
 
--- a segment that gets a challenge, and no more than one in a while: that, and one without text, or with SYN, that the block itself
--- would answer by an acknowledgement alone (RFC 5961, 7)
+-- a segment that gets a challenge, and no more than one in a while: that, and each that the block itself would answer by an
+-- acknowledgement alone, be it a SYN, a RST or outside the window, with text or without (RFC 5961, 3.2, 4.2 and 7)
 unfoldable pub provokes : Seg → List ℕ → Block → Bool
-provokes s text b = is_outside s b || (is_challenged s text b && ((length text == 0) || has s.flags syn))
+provokes s text b = is_outside s b || is_challenged s text b
 
 -- what becomes of a segment
 unfoldable pub judged : ℕ → Seg → List ℕ → Conn → Judged
@@ -105,20 +105,41 @@ resent again b = if again && (not (is_listen b.state) && not (b.una == snd_nxt b
 -- the block and the service take it, as the congestion window lets it
 unfoldable pub taken : ℕ → ℕ → Seg → List ℕ → Conn → Conn
 taken now iss s text c =
-    let x = eased s text c.tcb c.congestion in
+    let x = eased s c.tcb c.congestion in
     let b = serves (pump_of c.service) (segment now iss (seen s c.tcb x) text ∷ []) c.tcb in
     record c {
-      tcb = resent (calls_again s text c.tcb c.congestion) (renewed c.tcb.una s.wnd b);
+      tcb = resent (calls_again s c.tcb c.congestion) (renewed c.tcb.una s.wnd b);
       service = kept after_pump c.service (tcp_segment now iss (seen s c.tcb x) text c.tcb);
       congestion = x;
       heard = now;
     }
 
+-- Where RCV.WND is 0, a segment at RCV.NXT counts, and so does one behind it, where a probe's byte counts as sent (RFC 9293, 3.8.6.1)
+abbrev pub is_waited_for : Seg → Block → Bool
+is_waited_for s b = (rcv_wnd b == 0) && ((s.seq == rcv_nxt b) || (s.seq == (rcv_nxt b + 1) % 2 ^ 32))
+
+-- if it's an acknowledgement that is in order
+unfoldable pub is_allowed : Seg → Block → Bool
+is_allowed s b =
+    if has s.flags rst || has s.flags syn then false
+    else has s.flags ack && (is_open b && (not (is_outside s b) && is_waited_for s b))
+
+-- What it acknowledges and says of the window is taken, and nothing else of it (RFC 9293, 3.10.7.4, first)
+abbrev pub bared : Seg → Block → Seg
+bared s b = record s { seq = rcv_nxt b; flags = ack }
+
+unfoldable pub allowed : ℕ → ℕ → Seg → Conn → Conn
+allowed now iss s c = if is_allowed s c.tcb then taken now iss (bared s c.tcb) [] c else c
+
+-- a challenge is sent, unless that was the end
+unfoldable pub challenged : ℕ → Conn → Conn
+challenged now c = record c { tcb = (if is_over c then c.tcb else sends_ack c.tcb); heard = now; quiet_until = now + challenge_interval }
+
 -- the block takes it, or a challenge is sent in its place, or nothing happens
 unfoldable pub after : Judged → ℕ → ℕ → Seg → List ℕ → Conn → Conn
 after Taken now iss s text c = taken now iss s text c
-after Challenged now iss s text c = record c { tcb = sends_ack c.tcb; heard = now; quiet_until = now + challenge_interval }
-after Unanswered now iss s text c = c
+after Challenged now iss s text c = challenged now (allowed now iss s c)
+after Unanswered now iss s text c = allowed now iss s c
 after Late now iss s text c = c
 
 abbrev pub receives : ℕ → ℕ → Seg → List ℕ → Conn → Conn
@@ -168,9 +189,19 @@ is_longer most (Some mss) = nat_lt most mss
 unfoldable pub announcing : ℕ → Reply → Reply
 announcing most r = if is_longer most r.options.mss then record r { options = record r.options { mss = Some most } } else r
 
+-- Where the peer's window is 0, it takes no segment but at the number that it waits for, which is SND.UNA: what probed it wasn't taken (RFC 9293,
+-- 3.10.7.4 and 3.8.6.1)
+abbrev pub waited_for : Conn → Option ℕ
+waited_for c = if is_open c.tcb && (c.congestion.field == 0) then Some c.tcb.una else None
+
+-- so an acknowledgement alone has that number
+unfoldable pub numbered_as : Option ℕ → Reply → Reply
+numbered_as None r = r
+numbered_as (Some una) r = if (r.flags == ack) && (length r.text == 0) then record r { seq = una } else r
+
 -- the datagrams of what it sent
 abbrev pub sent_by : Tuple → Conn → List Datagram
-sent_by t c = map (λ r. datagram_of t (announcing c.most r)) c.tcb.replies
+sent_by t c = map (λ r. datagram_of t (announcing c.most (numbered_as (waited_for c) r))) c.tcb.replies
 
 -- what becomes of a connection and a segment that comes to it, and what is sent
 pub record Meeting : Type 0 where

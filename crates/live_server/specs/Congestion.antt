@@ -1,5 +1,5 @@
 -- Slow start, congestion avoidance, fast retransmit and fast recovery beside a block (RFC 5681; RFC 6582).
-use Rattle.std.specs.Prelude.{ℕ, ◌+◌, ◌-◌, ◌*◌, ◌/◌, ◌^◌, ◌==◌, nat_le, nat_lt, min, max, ◌&&◌, ◌||◌, not, Bool, true, false, List, length, if◌then◌else◌}
+use Rattle.std.specs.Prelude.{ℕ, ◌+◌, ◌-◌, ◌*◌, ◌/◌, ◌^◌, ◌==◌, nat_le, nat_lt, min, max, ◌&&◌, ◌||◌, not, Bool, true, false, if◌then◌else◌}
 use Rattle.sq_base.specs.SerialOrder.{dist}
 use Rattle.segment_codec.specs.ControlBits.{ack, fin, rst, syn}
 use Rattle.segment_codec.specs.declared.packet.Seg.{Seg}
@@ -8,15 +8,17 @@ use Rattle.tcb_machine.specs.Challenges.{is_syn_received}
 use Rattle.tcb_machine.specs.States.{is_listen}
 use Rattle.live_server.specs.declared.congestion.Congestion.{Congestion}
 
--- cwnd at first (RFC 6928), and the most that it becomes: more than a block ever has sent and not acknowledged
-abbrev pub first_window : ℕ
-first_window = 14600
+-- IW, by the most text of a segment (RFC 6928, 2)
+abbrev pub first_window : ℕ → ℕ
+first_window mss = min (10 * mss) (max (2 * mss) 14600)
 
+-- the most that cwnd becomes: more than a block ever has sent and not acknowledged
 abbrev pub most_window : ℕ
 most_window = 131072
 
+-- before the handshake nothing may be sent
 abbrev pub no_congestion : Congestion
-no_congestion = record { window = first_window; threshold = most_window; duplicates = 0; recovering = false; recover = 0; field = 0 }
+no_congestion = record { window = 0; threshold = most_window; duplicates = 0; recovering = false; recover = 0; field = 0 }
 
 -- FlightSize, as bytes and as segments
 abbrev pub flight : Block → ℕ
@@ -30,12 +32,17 @@ abbrev pub halved : Block → ℕ
 halved b = max (flight b / 2) (2 * b.agreed.mss)
 
 -- how many duplicate acknowledgements tell a loss: two thirds of those that the flight can cause, so that reordered segments aren't
--- taken for lost (RFC 4653), and one less than all where the flight is short (RFC 5827)
+-- taken for lost (RFC 4653), and three at least (RFC 5681, 3.2). Of two or three segments all but one suffice (RFC 5827, 3.1); one alone
+-- causes none
 abbrev pub tolerance : Block → ℕ
-tolerance b = if nat_lt (segments b) 4 then max 1 (segments b - 1) else max 3 (2 * segments b / 3)
+tolerance b = if nat_lt 1 (segments b) && nat_lt (segments b) 4 then segments b - 1 else max 3 (2 * segments b / 3)
 
 abbrev pub bounded : ℕ → ℕ
 bounded n = min most_window n
+
+-- in the handshake: IW, and `recover` is ISS (RFC 6582, 3.2, 1). It stays one segment where the SYN,ACK was sent again (RFC 5681, 3.1)
+unfoldable pub begun : Block → Congestion → Congestion
+begun b x = if x.recovering then x else record x { window = first_window b.agreed.mss; recover = b.una }
 
 -- n new bytes are acknowledged: slow start below ssthresh, else congestion avoidance (3.1, (2) and (3))
 unfoldable pub grown : ℕ → Block → Congestion → Congestion
@@ -44,19 +51,25 @@ grown n b x = record x {
   duplicates = 0;
 }
 
--- or fast recovery goes on (RFC 6582, 3.2, 3: a partial acknowledgement), or ends
+-- or fast recovery goes on (RFC 6582, 3.2, 3: a partial acknowledgement gives a segment back for at least one), or ends
 abbrev pub reaches : ℕ → Congestion → Bool
 reaches n x = nat_lt (dist x.recover n) (2 ^ 31)
 
 unfoldable pub recovers : ℕ → Seg → Block → Congestion → Congestion
 recovers n s b x =
     if reaches s.ack x then record x { window = x.threshold; duplicates = 0; recovering = false }
-    else record x { window = max (2 * b.agreed.mss) (bounded ((x.window - n) + b.agreed.mss)) }
+    else record x { window = max (2 * b.agreed.mss) (bounded ((x.window - n) + (if nat_le b.agreed.mss n then b.agreed.mss else 0))) }
+
+-- SND.UNA is `recover` where all is acknowledged that was sent before the last recovery, and nothing more. Duplicates then are of what
+-- that recovery sent twice, and tell no loss (RFC 6582, 3.2, 2). Elsewhere SND.UNA is before it in recovery, and beyond it outside
+abbrev pub is_at_recover : Block → Congestion → Bool
+is_at_recover b x = b.una == x.recover
 
 -- one duplicate more: fast recovery begins with the last one that is waited for (RFC 5681, 3.2, 2 to 4)
 unfoldable pub repeated : Block → Congestion → Congestion
 repeated b x =
     if x.recovering then record x { window = bounded (x.window + b.agreed.mss) }
+    else if is_at_recover b x then x
     else if nat_lt (x.duplicates + 1) (tolerance b) then record x { duplicates = x.duplicates + 1 }
     else record x { window = bounded (halved b + 3 * b.agreed.mss); threshold = halved b; duplicates = 0; recovering = true; recover = snd_nxt b }
 
@@ -82,17 +95,23 @@ is_open b = not (is_listen b.state || is_syn_received b.state)
 unfoldable pub is_fresh : Seg → Block → Bool
 is_fresh s b = has s.flags ack && (is_open b && (nat_lt 0 (dist b.una s.ack) && nat_le (dist b.una s.ack) (flight b)))
 
--- the answer to a probe of a window that is 0 tells no loss (RFC 9293, 3.8.6.1)
-unfoldable pub is_duplicate : Seg → List ℕ → Block → Congestion → Bool
-is_duplicate s text b x =
+-- A segment that came with text is no duplicate, though its text may be passed over for want of room. The answer to a probe of a window that
+-- is 0 tells no loss (RFC 9293, 3.8.6.1)
+unfoldable pub is_duplicate : Seg → Block → Congestion → Bool
+is_duplicate s b x =
     if has s.flags syn || (has s.flags fin || has s.flags rst) then false
-    else has s.flags ack && (is_open b && ((s.ack == b.una) && (nat_lt 0 (flight b) && ((length text == 0) && ((s.wnd == x.field) && not (s.wnd == 0))))))
+    else has s.flags ack && (is_open b && ((s.ack == b.una) && (nat_lt 0 (flight b) && ((s.text_len == 0) && ((s.wnd == x.field) && not (s.wnd == 0))))))
+
+-- the next duplicate is the last one that is waited for
+abbrev pub begins_recovery : Block → Congestion → Bool
+begins_recovery b x = not x.recovering && (not (is_at_recover b x) && not (nat_lt (x.duplicates + 1) (tolerance b)))
 
 -- what a segment makes of it
-unfoldable pub eased : Seg → List ℕ → Block → Congestion → Congestion
-eased s text b x =
-    let y = if is_fresh s b then (if x.recovering then recovers (dist b.una s.ack) s b x else grown (dist b.una s.ack) b x)
-    else if is_duplicate s text b x then repeated b x
+unfoldable pub eased : Seg → Block → Congestion → Congestion
+eased s b x =
+    let y = if is_syn_received b.state then begun b x
+    else if is_fresh s b then (if x.recovering then recovers (dist b.una s.ack) s b x else grown (dist b.una s.ack) b x)
+    else if is_duplicate s b x then repeated b x
     else x in
     record y { field = s.wnd }
 
@@ -102,10 +121,10 @@ reopens s b x = has s.flags ack && (is_open b && ((s.ack == b.una) && ((x.field 
 
 -- whether the first segment that isn't acknowledged is to be sent again: as recovery begins, at each partial acknowledgement, and where
 -- the window opens
-unfoldable pub calls_again : Seg → List ℕ → Block → Congestion → Bool
-calls_again s text b x =
+unfoldable pub calls_again : Seg → Block → Congestion → Bool
+calls_again s b x =
     if is_fresh s b then x.recovering && not (reaches s.ack x)
-    else reopens s b x || (is_duplicate s text b x && (not x.recovering && not (nat_lt (x.duplicates + 1) (tolerance b))))
+    else reopens s b x || (is_duplicate s b x && begins_recovery b x)
 
 -- the window field as the block is to see it: no more than cwnd, and never closed where it isn't
 unfoldable pub seen_window : Seg → Block → Congestion → ℕ

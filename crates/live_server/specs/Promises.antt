@@ -145,7 +145,11 @@ abbrev pub FirstIsWide : Type 0
 FirstIsWide = (b : Block) → b.agreed.mss ≤ 65535 → IsWide b no_congestion
 
 abbrev pub SegmentKeepsWide : Type 0
-SegmentKeepsWide = (s : Seg) (text : List ℕ) (b : Block) (x : Congestion) → IsWide b x → IsWide b (eased s text b x)
+SegmentKeepsWide = (s : Seg) (b : Block) (x : Congestion) → IsWide b x → IsWide b (eased s b x)
+
+-- No segment begins fast recovery where SND.UNA is no further than `recover`, which the last one had to reach (RFC 6582, 3.2, 2)
+abbrev pub BeginsBeyondRecover : Type 0
+BeginsBeyondRecover = (s : Seg) (b : Block) (x : Congestion) → x.recovering ≡ false → b.una ≡ x.recover → (eased s b x).recovering ≡ false
 
 abbrev pub TimeoutIsWide : Type 0
 TimeoutIsWide = (b : Block) (x : Congestion) → IsWide b (timed_out b x)

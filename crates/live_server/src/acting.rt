@@ -3,9 +3,9 @@
 ghost use Rattle.std.specs.Prelude.{◌≡◌, IfOk};
 ghost use Rattle.tcb_machine.specs.BlockState.{IsOurs};
 ghost use Rattle.segment_codec.specs.SentIsRead.{text_in};
-ghost use Rattle.live_server.specs.Acts.{announcing, datagram_of, is_longer};
+ghost use Rattle.live_server.specs.Acts.{announcing, datagram_of, is_longer, numbered_as};
 
-use segment_codec::{Options, Reply, Seg, encode};
+use segment_codec::{ACK, Options, Reply, Seg, encode};
 use sq_base::{Octets, Tuple};
 use std::alloc::{AllocError, Global};
 
@@ -27,26 +27,36 @@ pub(crate) fn encoded(alloc: Global, tuple: &Tuple, reply: &Reply) -> Result<Dat
     })
 }
 
-/// The same, where no longer MSS is announced than this. A segment that announces one has next to no text, which is copied.
+/// The same, where no longer MSS is announced than this, and where a peer whose window is 0 waits for a number. What is changed has next to no
+/// text, which is copied.
 #[tactic(auto, unfolding(crate::specs::Acts::announcing))]
 pub(crate) fn announced(
     alloc: Global,
     tuple: &Tuple,
     reply: &Reply,
     most: u16,
+    waited_for: Option<u32>,
 ) -> Result<Datagram, AllocError>
     requires { IsOurs reply.now }
-    ensures { IfOk result (λ d. d ≡ datagram_of tuple.now (announcing most reply.now)) }
+    ensures { IfOk result (λ d. d ≡ datagram_of tuple.now (announcing most (numbered_as waited_for reply.now))) }
 {
-    if !is_longer(reply.options.mss, most) {
+    let seq = numbered_as(reply, waited_for);
+    let longer = is_longer(reply.options.mss, most);
+    if !longer && seq == reply.seq {
         return encoded(alloc, tuple, reply);
     }
+    let mss = if longer {
+        Some(most)
+    } else {
+        reply.options.mss
+    };
     let options = Options {
-        mss: Some(most),
+        mss,
         ..reply.options
     };
     let text = Octets::of(alloc, reply.text.as_slice())?;
     let reply = Reply {
+        seq,
         options,
         text,
         ..*reply
@@ -55,6 +65,17 @@ pub(crate) fn announced(
         at: reply.at,
         bytes: encode(alloc, tuple, &reply)?,
     })
+}
+
+/// The sequence number that a segment gets.
+#[tactic(auto, unfolding(crate::specs::Acts::numbered_as))]
+fn numbered_as(reply: &Reply, waited_for: Option<u32>) -> u32
+    ensures { numbered_as waited_for reply.now ≡ record reply.now { seq = result } }
+{
+    match waited_for {
+        Some(una) if reply.flags == ACK && reply.text.as_slice().is_empty() => una,
+        _ => reply.seq,
+    }
 }
 
 /// Whether an MSS is announced that is longer than this.

@@ -1,16 +1,16 @@
 //! A congestion window beside a block (RFC 5681, RFC 6582). It acts on the block by the window field of the segments that the block
 //! sees, and by what is sent again.
 
-ghost use Rattle.std.specs.Prelude.{◌≡◌, ◌+◌, ◌*◌, ◌≤◌, not, nat_lt, if◌then◌else◌};
+ghost use Rattle.std.specs.Prelude.{◌≡◌, ◌+◌, ◌*◌, ◌≤◌, if◌then◌else◌};
 ghost use Rattle.sq_base.specs.SerialOrder.{dist};
-ghost use Rattle.live_server.specs.Congestion.{bounded, calls_again, eased, flight, grown, halved, is_duplicate, is_fresh};
+ghost use Rattle.live_server.specs.Congestion.{begins_recovery, begun, bounded, calls_again, eased, first_window, flight, grown, halved, is_at_recover, is_duplicate, is_fresh};
 ghost use Rattle.live_server.specs.Congestion.{is_open, no_congestion, reaches, recovers, reopens, repeated, restarted, seen, seen_window, segments, timed_out, tolerance};
 
 use segment_codec::{ACK, FIN, RST, SYN, Seg};
 use sq_base::seq_dist;
 use tcb_machine::{State, Tcb};
 
-/// cwnd at first, in bytes (RFC 6928).
+/// cwnd at first, in bytes, where segments have neither fewer than 1,460 bytes of text nor more than 7,300 (RFC 6928, 2).
 const FIRST_WINDOW: u32 = 14_600;
 
 /// The most that cwnd becomes, in bytes.
@@ -19,12 +19,12 @@ const MOST_WINDOW: u32 = 131_072;
 /// What is known of the path to the peer. Windows are in bytes.
 #[derive(Clone, Copy, Debug, PartialEq, Eq)]
 pub struct Congestion {
-    /// cwnd, and ssthresh.
+    /// cwnd, which is 0 before the handshake, and ssthresh.
     pub window: u32,
     pub threshold: u32,
     /// How many duplicate acknowledgements came since the last new one.
     pub duplicates: u32,
-    /// In fast recovery, up to SND.NXT as it was when that began.
+    /// In fast recovery, up to SND.NXT as it was when that began. Behind it, where SND.UNA is still there, no other one begins.
     pub recovering: bool,
     pub recover: u32,
     /// The peer's last window field.
@@ -37,7 +37,7 @@ impl Congestion {
         ensures { result ≡ no_congestion }
     {
         Congestion {
-            window: FIRST_WINDOW,
+            window: 0,
             threshold: MOST_WINDOW,
             duplicates: 0,
             recovering: false,
@@ -48,12 +48,14 @@ impl Congestion {
 
     /// A segment comes, before the block sees it.
     #[tactic(auto, unfolding(crate::specs::Congestion::eased))]
-    pub fn ease(&mut self, tcb: &Tcb, seg: &Seg, text: &[u8])
-        ensures { self.new ≡ eased seg.now text.now tcb.now self.old }
+    pub fn ease(&mut self, tcb: &Tcb, seg: &Seg)
+        ensures { self.new ≡ eased seg.now tcb.now self.old }
     {
-        if is_fresh(tcb, seg) {
+        if matches!(tcb.state(), State::SynReceived) {
+            self.begin(tcb);
+        } else if is_fresh(tcb, seg) {
             self.acknowledge(tcb, seg);
-        } else if self.is_duplicate(tcb, seg, text) {
+        } else if self.is_duplicate(tcb, seg) {
             self.repeat(tcb);
         }
         self.field = seg.wnd;
@@ -61,14 +63,13 @@ impl Congestion {
 
     /// Whether a segment tells, before the block sees it, that the first segment that isn't acknowledged is to be sent again.
     #[tactic(auto, unfolding(crate::specs::Congestion::calls_again))]
-    pub fn calls_again(&self, tcb: &Tcb, seg: &Seg, text: &[u8]) -> bool
-        ensures { result ≡ calls_again seg.now text.now tcb.now self.now }
+    pub fn calls_again(&self, tcb: &Tcb, seg: &Seg) -> bool
+        ensures { result ≡ calls_again seg.now tcb.now self.now }
     {
         if is_fresh(tcb, seg) {
             self.recovering && !self.reaches(seg.ack)
         } else {
-            self.reopens(tcb, seg)
-                || (self.is_duplicate(tcb, seg, text) && !self.recovering && self.is_last(tcb))
+            self.reopens(tcb, seg) || (self.is_duplicate(tcb, seg) && self.begins_recovery(tcb))
         }
     }
 
@@ -84,11 +85,20 @@ impl Congestion {
             && seg.wnd != 0
     }
 
-    /// Whether the next duplicate is the last one that is waited for.
-    fn is_last(&self, tcb: &Tcb) -> bool
-        ensures { result ≡ not (nat_lt (self.now.duplicates + 1) (tolerance tcb.now)) }
+    /// Whether fast recovery begins with the next duplicate.
+    fn begins_recovery(&self, tcb: &Tcb) -> bool
+        ensures { result ≡ begins_recovery tcb.now self.now }
     {
-        u64::from(self.duplicates) + 1 >= tolerance(tcb)
+        !self.recovering
+            && !self.is_at_recover(tcb)
+            && u64::from(self.duplicates) + 1 >= tolerance(tcb)
+    }
+
+    /// Whether nothing was acknowledged beyond the last recovery (RFC 6582, 3.2).
+    fn is_at_recover(&self, tcb: &Tcb) -> bool
+        ensures { result ≡ is_at_recover tcb.now self.now }
+    {
+        tcb.snd_una() == self.recover
     }
 
     /// The segment as the block is to see it.
@@ -139,6 +149,18 @@ impl Congestion {
         self.recover = tcb.snd_nxt();
     }
 
+    /// The handshake goes on, and the MSS is known.
+    #[tactic(auto, unfolding(crate::specs::Congestion::begun))]
+    fn begin(&mut self, tcb: &Tcb)
+        ensures { self.new ≡ begun tcb.now self.old }
+    {
+        if self.recovering {
+            return;
+        }
+        self.window = first_window(tcb.mss());
+        self.recover = tcb.snd_una();
+    }
+
     /// New bytes are acknowledged.
     fn acknowledge(&mut self, tcb: &Tcb, seg: &Seg)
         ensures { self.new ≡ (if self.old.recovering then recovers (dist tcb.now.una seg.now.ack) seg.now tcb.now self.old
@@ -162,7 +184,8 @@ impl Congestion {
             self.recovering = false;
         } else {
             let mss = u32::from(tcb.mss());
-            self.window = sum(self.window.saturating_sub(count), mss).max(2 * mss);
+            let back = if mss <= count { mss } else { 0 };
+            self.window = sum(self.window.saturating_sub(count), back).max(2 * mss);
         }
     }
 
@@ -194,20 +217,20 @@ impl Congestion {
         let mss = u32::from(tcb.mss());
         if self.recovering {
             self.window = sum(self.window, mss);
-        } else if self.is_last(tcb) {
+        } else if self.begins_recovery(tcb) {
             self.threshold = halved(tcb);
             self.window = sum(self.threshold, 3 * mss);
             self.duplicates = 0;
             self.recovering = true;
             self.recover = tcb.snd_nxt();
-        } else {
+        } else if !self.is_at_recover(tcb) {
             self.duplicates += 1;
         }
     }
 
     #[tactic(auto, unfolding(crate::specs::Congestion::is_duplicate))]
-    fn is_duplicate(&self, tcb: &Tcb, seg: &Seg, text: &[u8]) -> bool
-        ensures { result ≡ is_duplicate seg.now text.now tcb.now self.now }
+    fn is_duplicate(&self, tcb: &Tcb, seg: &Seg) -> bool
+        ensures { result ≡ is_duplicate seg.now tcb.now self.now }
     {
         if seg.flags & SYN != 0 || seg.flags & FIN != 0 || seg.flags & RST != 0 {
             return false;
@@ -216,7 +239,7 @@ impl Congestion {
             && is_open(tcb)
             && seg.ack == tcb.snd_una()
             && flight(tcb) > 0
-            && text.is_empty()
+            && seg.text_len == 0
             && seg.wnd == self.field
             && seg.wnd != 0
     }
@@ -259,13 +282,21 @@ fn halved(tcb: &Tcb) -> u32
     (flight(tcb) / 2).max(2 * u32::from(tcb.mss()))
 }
 
+/// cwnd at first, by the most text of a segment.
+fn first_window(mss: u16) -> u32
+    ensures { result ≡ first_window mss }
+{
+    let mss = u32::from(mss);
+    (10 * mss).min((2 * mss).max(FIRST_WINDOW))
+}
+
 /// How many duplicate acknowledgements tell a loss.
 fn tolerance(tcb: &Tcb) -> u64
     ensures { result ≡ tolerance tcb.now }
 {
     let count = segments(tcb);
-    if count < 4 {
-        (count - 1).max(1)
+    if 1 < count && count < 4 {
+        count - 1
     } else {
         (2 * count / 3).max(3)
     }

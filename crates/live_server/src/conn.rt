@@ -1,17 +1,19 @@
 //! One connection: its block, and what the server keeps beside it.
 
-ghost use Rattle.std.specs.Prelude.{◌≡◌, ◌++◌, ◌≤◌, IfOk, OnErr, OnOk};
-ghost use Rattle.live_server.specs.Acts.{after, closed, emptied, has_room, is_half_open, is_idle, is_outside, is_over, judged, meets};
-ghost use Rattle.live_server.specs.Acts.{new_conn, oldest_ack, provokes, pruned, reached, receives, renewed, resent, sent_by, taken, takes, ticked};
+ghost use Rattle.std.specs.Prelude.{false, ◌≡◌, ◌==◌, ◌&&◌, ◌++◌, ◌≤◌, IfOk, None, OnErr, OnOk, Some, if◌then◌else◌};
+ghost use Rattle.live_server.specs.Acts.{after, allowed, challenged, closed, emptied, has_room, is_allowed, is_half_open, is_idle, is_outside, is_over, is_waited_for, judged, meets};
+ghost use Rattle.live_server.specs.Acts.{new_conn, oldest_ack, provokes, pruned, reached, receives, renewed, resent, sent_by, taken, takes, ticked, waited_for};
 ghost use Rattle.live_server.specs.Facts.{facts_of};
 ghost use Rattle.live_server.specs.Leaving.{is_given_up};
 ghost use Rattle.live_server.specs.Written.{HasSent};
+ghost use Rattle.tcb_machine.specs.BlockState.{rcv_nxt, rcv_wnd};
+ghost use Rattle.tcb_machine.specs.States.{is_listen};
 ghost use Rattle.tcb_machine.specs.TcpStep.{is_time_wait};
 ghost use Rattle.tcb_machine.specs.Room.{HasRoom};
 ghost use Rattle.tcb_machine.specs.Limits.{last_time};
 
 use crate::acting::{Datagram, announced};
-use crate::congestion::Congestion;
+use crate::congestion::{Congestion, is_open};
 use crate::facts::Facts;
 use crate::measures::Measures;
 use crate::service::LiveService;
@@ -166,11 +168,11 @@ impl Conn {
         match judged {
             Judged::Taken => self.serve(alloc, now, iss, seg, text)?,
             Judged::Challenged => {
-                self.tcb.challenge(alloc)?;
-                self.heard = now;
-                self.quiet_until = now + CHALLENGE_INTERVAL;
+                self.allow(alloc, now, iss, seg)?;
+                self.challenge(alloc, now)?;
             }
-            Judged::Unanswered | Judged::Late => {}
+            Judged::Unanswered => self.allow(alloc, now, iss, seg)?,
+            Judged::Late => {}
         }
         Ok(judged)
     }
@@ -190,8 +192,8 @@ impl Conn {
         requires room { HasRoom self.old.tcb }
         ensures { OnOk result (self.new ≡ taken now iss seg.now text.now self.old) }
     {
-        let again = self.congestion.calls_again(&self.tcb, seg, text);
-        self.congestion.ease(&self.tcb, seg, text);
+        let again = self.congestion.calls_again(&self.tcb, seg);
+        self.congestion.ease(&self.tcb, seg);
         let seen = self.congestion.seen(&self.tcb, seg);
         let una = self.tcb.snd_una();
         serve(
@@ -206,6 +208,40 @@ impl Conn {
         renew(&mut self.tcb, una, seg.wnd);
         resend(&mut self.tcb, alloc, again)?;
         self.heard = now;
+        Ok(())
+    }
+
+    /// Where the receive window is 0, a segment that isn't in it is taken for what it acknowledges and says of the window (RFC 9293, 3.10.7.4).
+    /// After an error nothing more is promised.
+    #[tactic(auto, unfolding(crate::specs::Acts::allowed))]
+    fn allow(&mut self, alloc: Global, now: u64, iss: u32, seg: &Seg) -> Result<(), AllocError>
+        requires clock { self.old.tcb.clock ≤ now }
+        requires time { now ≤ last_time }
+        requires room { HasRoom self.old.tcb }
+        ensures { OnOk result (self.new ≡ allowed now iss seg.now self.old) }
+    {
+        if let Some(seq) = allowed_at(&self.tcb, seg) {
+            let bared = Seg {
+                seq,
+                flags: ACK,
+                ..*seg
+            };
+            self.serve(alloc, now, iss, &bared, &[])?;
+        }
+        Ok(())
+    }
+
+    /// A challenge is sent, unless the connection is over. After an error nothing more is promised.
+    #[tactic(auto, unfolding(crate::specs::Acts::challenged))]
+    fn challenge(&mut self, alloc: Global, now: u64) -> Result<(), AllocError>
+        requires { now ≤ last_time }
+        ensures { OnOk result (self.new ≡ challenged now self.old) }
+    {
+        if !self.is_over() {
+            self.tcb.challenge(alloc)?;
+        }
+        self.heard = now;
+        self.quiet_until = now + CHALLENGE_INTERVAL;
         Ok(())
     }
 
@@ -225,6 +261,17 @@ impl Conn {
         Ok(())
     }
 
+    /// The number that the peer waits for, where its window is 0.
+    fn waited_for(&self) -> Option<u32>
+        ensures { result ≡ waited_for self.now }
+    {
+        if is_open(&self.tcb) && self.congestion.field == 0 {
+            Some(self.tcb.snd_una())
+        } else {
+            None
+        }
+    }
+
     /// What the block has sent leaves it, and goes behind the datagrams that are there.
     #[tactic(auto, unfolding(crate::specs::Acts::emptied))]
     pub fn send(
@@ -238,9 +285,10 @@ impl Conn {
         ensures wrote { OnErr result (HasSent out.old.items out.new.items (sent_by tuple.now self.old)) }
     {
         let most = self.most;
+        let waited_for = self.waited_for();
         let replies = self.tcb.take_replies(alloc);
         for reply in &replies {
-            out.push(announced(alloc, tuple, reply, most)?)?;
+            out.push(announced(alloc, tuple, reply, most, waited_for)?)?;
         }
         Ok(())
     }
@@ -398,8 +446,51 @@ fn has_room(tcb: &Tcb) -> bool
 fn provokes(tcb: &Tcb, seg: &Seg, text: &[u8]) -> bool
     ensures { result ≡ provokes seg.now text.now tcb.now }
 {
-    is_outside(tcb, seg)
-        || (tcb.is_challenged(seg, text) && (text.is_empty() || seg.flags & SYN != 0))
+    is_outside(tcb, seg) || tcb.is_challenged(seg, text)
+}
+
+/// RCV.NXT, where a closed window lets a segment count.
+#[tactic(auto, unfolding(crate::specs::Acts::is_allowed))]
+fn allowed_at(tcb: &Tcb, seg: &Seg) -> Option<u32>
+    ensures { result ≡ (if is_allowed seg.now tcb.now then Some (rcv_nxt tcb.now) else None) }
+{
+    if seg.flags & RST != 0 || seg.flags & SYN != 0 {
+        return None;
+    }
+    if seg.flags & ACK == 0 || !is_open(tcb) || is_outside(tcb, seg) {
+        return None;
+    }
+    waited_at(tcb, seg)
+}
+
+/// RCV.NXT, where RCV.WND is 0 and a segment is there, or one behind.
+#[tactic(auto, unfolding(tcb_machine::specs::BlockState::rcv_nxt))]
+fn waited_at(tcb: &Tcb, seg: &Seg) -> Option<u32>
+    requires { is_listen tcb.now.state ≡ false }
+    ensures { result ≡ (if is_waited_for seg.now tcb.now then Some (rcv_nxt tcb.now) else None) }
+{
+    let before = seg.seq.wrapping_sub(1);
+    if is_closed_at(tcb, seg, seg.seq) {
+        Some(seg.seq)
+    } else if is_closed_at(tcb, seg, before) {
+        Some(before)
+    } else {
+        None
+    }
+}
+
+/// Whether RCV.WND is 0, and RCV.NXT this number: there alone an empty segment is acceptable, and one with text isn't.
+#[tactic(auto, using(crate::proofs::ConnLemmas::closed_told))]
+fn is_closed_at(tcb: &Tcb, seg: &Seg, seq: u32) -> bool
+    requires { is_listen tcb.now.state ≡ false }
+    ensures { result ≡ ((rcv_wnd tcb.now == 0) && (seq == rcv_nxt tcb.now)) }
+{
+    let at = Seg {
+        seq,
+        flags: ACK,
+        ..*seg
+    };
+    !tcb.is_challenged(&at, &[]) && tcb.is_challenged(&at, &[0])
 }
 
 /// Whether the acknowledgement is neither of what was sent nor a bit older (RFC 5961, 5.2).

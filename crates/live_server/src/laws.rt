@@ -7,7 +7,7 @@ ghost use Rattle.live_server.specs.Frames.{PiecesJoin};
 ghost use Rattle.live_server.specs.Isolation.{AnswersItsEnds, OthersStay, OwnConnActs, OwnEntryGivesWay, SegmentKeepsTable, TimeKeepsTable, TimeLeaves, TooLongIsApart};
 ghost use Rattle.live_server.specs.Promises.{ChallengesAreApart, FirstIsWide, OneGivesWay, OneIsShed, PlaceIsFreed, OutputIsBounded, SegmentKeepsFew, SegmentKeepsWide, ShedIsFair, ShownIsKept};
 ghost use Rattle.live_server.specs.Promises.{NewIsShort, SegmentKeepsShort, ShownIsNarrow, TextIsBounded, TextIsCounted, TimeCountsAnew, TimeKeepsFew};
-ghost use Rattle.live_server.specs.Promises.{HeededIsShort, PathIsBounded, PlacedStaysShort, RestartIsWide, UnsentIsIgnored};
+ghost use Rattle.live_server.specs.Promises.{HeededIsShort, PathIsBounded, PlacedStaysShort, RestartIsWide, BeginsBeyondRecover, UnsentIsIgnored};
 ghost use Rattle.live_server.specs.Promises.{TickKeepsOrder, TightHoldsOrder, TimeKeepsShort, TimeoutIsWide};
 
 /// Each connection stands once in the table, and there are no more than there are places.
@@ -101,6 +101,11 @@ pub fn congestion_is_bounded()
     ensures timeout { TimeoutIsWide }
     ensures restart { RestartIsWide }
     ensures shown { ShownIsNarrow }
+{}
+
+/// Duplicates of what a recovery sent twice begin no other one: SND.UNA has to be beyond what the last one had to reach (RFC 6582, 3.2).
+pub fn recovery_begins_beyond_the_last()
+    ensures { BeginsBeyondRecover }
 {}
 
 /// Where a server drains, no datagram opens a connection any more, and behind a tick each connection has asked for its FIN, or is half open.
