@@ -13,7 +13,7 @@ VERDICTS = ("met", "**not met**", "by choice", "no ", "there is none")
 def tables(text):
     """The tables of a page, each as its rows behind the head; a row is a list of cells."""
     found = re.findall(r"(?m)^\|[^\n]*\n\|[-|]+\n((?:\|.*\n)+)", text)
-    return [[row.strip("\n")[1:-1].split("|") for row in table.splitlines()] for table in found]
+    return [[[cell.strip() for cell in row.strip("\n")[1:-1].split("|")] for row in table.splitlines()] for table in found]
 
 
 def numbers(cell):
