@@ -251,6 +251,43 @@ def zero_window(program):
         client.close()
 
 
+def both_closed(program):
+    """RFC 9293, 3.10.7.4: a client that writes and doesn't read has both windows closed. Once it reads, the text comes: its acknowledgement counts, which
+    stands behind the byte of its probe."""
+    text = bytes(k * 7 % 251 for k in range(2 * 65535))
+    with Framed(program) as server:
+        client = Client(server, window=0)
+        for at in range(0, len(text), 1460):
+            told = client.send(text[at:at + 1460])[-1]
+        assert told.ack == client.seq, "what both queues hold"
+        told, = server.step(client.segment(client.seq, client.ack, ACK, text=b"?"), after=SECOND // 5)
+        assert told.ack == client.seq, "the probe's byte isn't taken"
+        assert [s.text for s in server.step(after=SECOND)] == [text[:1]]
+        back = bytearray(text[:1])
+        while len(back) < len(text):
+            acknowledged = client.ack + len(back)
+            sent = server.step(client.segment(client.seq + 1, acknowledged, ACK, window=8760), after=SECOND // 10)
+            if len(back) > 1 and not any(found.text for found in sent):
+                # our window is open by a byte, and the client sends its own again
+                sent = server.step(client.segment(client.seq, acknowledged, ACK, text=b"?", window=8760), after=SECOND // 10)
+            assert any(found.text for found in sent), f"silence behind {len(back)} bytes"
+            for found in sent:
+                if found.seq == client.ack + len(back):
+                    back += found.text
+        assert back.startswith(text)
+
+
+def late_copy(program):
+    """RFC 6582, 3.2, and RFC 5827, 3.1: messages one by one, of which the wire doubles an answer late. Its acknowledgement has no other one sent twice."""
+    with Framed(program) as server:
+        client, copies = Client(server), 1
+        for k in range(300):
+            assert [s.text for s in client.send(bytes([k % 256]), after=SECOND // 100)] == [bytes([k % 256])], f"message {k}"
+            copies = sum(len(server.step(client.segment(client.seq, client.ack, ACK), after=100)) for _ in range(copies))
+            assert copies == 0, f"message {k} came twice"
+            client.ack += 1
+
+
 def echo_requests(program):
     """Echo requests (RFC 792) between a connection's segments: each is answered as it came, in order; a spoiled one, and one that isn't for us, aren't."""
     us, them = socket.inet_aton(SERVER), socket.inet_aton(CLIENT)
@@ -314,9 +351,11 @@ def path_mtu_icmp(program):
         assert [len(s.text) for s in client.send(text[:1460]) + client.send(text[1460:2920])] == [1460] * 2
         first = client.ack
         heeded = report(first + 1460, 1000)
+        # unreachables, source quench, time exceeded, parameter problem (RFC 9293, 3.9.2.2)
+        others = [tcp_segments.icmp(router, us, kind, code, heeded[24:]) for kind, code in ((3, 0), (3, 1), (3, 2), (3, 3), (3, 5), (4, 0), (11, 0), (12, 0))]
         passed_over = [report(first - 1, 1000), report(first + 2920, 1000), report(first, 1500), report(first, 1000, port=40002), report(first, 1000, service=9),
                        report(first, 1000, target=socket.inet_aton("10.9.0.3")), report(first, 1000, router=socket.inet_aton("224.0.0.1")), report(first, 1000, router=us),
-                       heeded[:-1] + bytes((heeded[-1] ^ 1,)), heeded[:20] + b"\3\1" + heeded[22:], heeded[:-4]]
+                       heeded[:-1] + bytes((heeded[-1] ^ 1,)), heeded[:20] + b"\3\1" + heeded[22:], heeded[:-4], *others]
         assert server.raw(*passed_over) == []
         assert [(s.seq, s.text) for s in server.step(heeded, heeded)] == [(first, text[:960])]
         for at in (960, 1920):
@@ -362,5 +401,5 @@ def drain(program):
 
 
 RULES = {function.__name__.replace("_", "-"): function
-         for function in (addresses, challenges, blind, fresh, idle, one_address, vanished, half_open, own_age, silent, time_wait, memory, zero_window, echo_requests, pings, path_mtu, path_mtu_icmp, ports,
+         for function in (addresses, challenges, blind, fresh, idle, one_address, vanished, half_open, own_age, silent, time_wait, memory, zero_window, both_closed, late_copy, echo_requests, pings, path_mtu, path_mtu_icmp, ports,
                           drain)}
