@@ -6,19 +6,19 @@ import os
 import re
 import shlex
 import shutil
-import signal
 import subprocess
 import sys
 import time
-from contextlib import contextmanager
+from contextlib import contextmanager, nullcontext
 from dataclasses import dataclass, field
 from pathlib import Path
 
 import builds
 import drawing
 import links
+import output
 from capture import captures_of
-from files import MAGICS, SECTION, Refused, map_file, plain
+from files import MAGICS, SECTION, Refused, map_file, plain, standard_in
 from packets import KINDS, SERVICES
 from refusals import explained
 
@@ -107,22 +107,20 @@ class Explained(Refused):
         self.meaning = explained(line)
 
 
-def lines_of(fault):
-    """What a terminal is told of a fault, in one line or two."""
-    if isinstance(fault, OSError) and fault.filename:
-        return f"{fault.strerror}: {plain(repr(fault.filename))}"
+def complain(tool, fault):
+    """Tells a fault in one line or two; its status."""
+    text, status = output.told(fault)
     meaning = getattr(fault, "meaning", "")
-    return plain(fault) + (f"\n{meaning}" if meaning else "")
+    print(f"{tool}: {plain(text)}" + (f"\n{meaning}" if meaning else ""), file=sys.stderr)
+    return status
 
 
 def opened(path, folder, number, told):
-    """The file itself, or its unpacked bytes in the folder. `-` is standard input, and a folder may be a shard of sqshard's."""
+    """The file itself, or its bytes in the folder, unpacked. `-` is standard input, any pipe will do, and a folder may be a shard of sqshard's."""
     try:
-        if path == "-":
-            told.begin("reading", 0)
-            path = copied(sys.stdin.buffer, place(folder, f"input-{number}", "standard input"), told)
-        elif (Path(path) / "0-head").is_file():
+        if (Path(path) / "0-head").is_file():
             return joined(Path(path), place(folder, f"shard-{number}", Path(path).name))
+        path = kept(path, folder, number, told)
         with open(path, "rb") as data:
             start = data.read(8)
         packed = [opener for magic, opener in PACKED if start.startswith(magic)]
@@ -131,9 +129,21 @@ def opened(path, folder, number, told):
         told.begin("unpacking", 0)
         return unpacked(path, packed[0], place(folder, f"unpacked-{number}", Path(path).name), told)
     except (EOFError, gzip.BadGzipFile, lzma.LZMAError, OSError, ValueError) as fault:
+        if getattr(fault, "errno", None) in output.FULL:
+            raise
         raise Refused(f"{str(path)!r}: {getattr(fault, 'strerror', None) or fault}", 4) from None
     finally:
         told.end()
+
+
+def kept(path, folder, number, told):
+    """A file that can be read again: standard input and pipes are copied."""
+    if path != "-" and (os.path.isfile(path) or os.path.isdir(path) or not os.path.exists(path)):
+        return path
+    told.begin("reading", 0)
+    name = "standard input" if path == "-" else Path(path).name
+    with nullcontext(standard_in()) if path == "-" else open(path, "rb") as source:
+        return copied(source, place(folder, f"input-{number}", name), told)
 
 
 def joined(shard, end):
@@ -190,12 +200,6 @@ def bounded(path, opener):
             raise
     if running.returncode:
         raise Refused(f"{str(path)!r}: {said.decode(errors='replace').strip()[:200]!r}", 4)
-
-
-def writable(path):
-    """Refuses a place where nothing can be written before there is anything to write."""
-    if path and (os.path.isdir(path) or not os.access(path if os.path.exists(path) else os.path.dirname(path) or ".", os.W_OK)):
-        raise Refused(f"{path!r}: {'it is a folder' if os.path.isdir(path) else 'nothing can be written there'}", 2)
 
 
 def files_of(names):
@@ -306,11 +310,6 @@ def waited(running, told):
         except subprocess.TimeoutExpired:
             told.tick()
     return running.stderr.read().decode(errors="replace").strip()
-
-
-def end_on_term():
-    """Told to stop, a tool removes its temporary files and ends its programs first."""
-    signal.signal(signal.SIGTERM, lambda *_: sys.exit(143))
 
 
 def counted(report):

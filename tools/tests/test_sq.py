@@ -350,8 +350,8 @@ class Shapes(Folder):
         done = subprocess.run([TOOLS / "sq", "--sqrun", program(), "--page", "mine.pcap"], cwd=self.folder, stdout=end, stderr=subprocess.PIPE)
         os.close(end), os.close(main)
         self.assertEqual(done.returncode, 0, done.stderr)
-        self.assertTrue((self.folder / "mine.pcap.sqrun.html").exists())
-        self.assertIn(b"mine.pcap.sqrun.html", done.stderr)
+        self.assertTrue((self.folder / "mine.sqrun.html").exists())
+        self.assertIn(b"mine.sqrun.html", done.stderr)
 
     def test_help_and_manual(self):
         for tool in ("sq", "sqdiff"):

@@ -165,10 +165,10 @@ class Joined(unittest.TestCase):
         path = captures()[0]
         (self.folder / "a.report").write_bytes(sqrun(path))
         words = [TOOLS / "sqpcap", "--capture", path, self.folder / "a.report"]
-        self.assertEqual(output([*words, "-o", "/dev/full"], status=1), b"sqpcap: No space left on device: /dev/full\n")
+        self.assertEqual(output([*words, "-o", "/dev/full"], status=5), b"sqpcap: '/dev/full': No space left on device\n")
         with open("/dev/full", "wb") as full:
             done = subprocess.run(words, stdout=full, stderr=subprocess.PIPE)
-        self.assertEqual((done.returncode, done.stderr), (1, b"sqpcap: No space left on device: standard output\n"))
+        self.assertEqual((done.returncode, done.stderr), (5, b"sqpcap: standard output: No space left on device\n"))
 
     def test_a_capture_through_a_pipe(self):
         path = captures()[0]
