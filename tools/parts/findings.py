@@ -31,6 +31,7 @@ class Found:
     def __init__(self):
         self.by_kind = {}
         self.wire = False           # the wire may count: the server is far, or something was sent again
+        self.doubt = False          # the capture isn't whole
         self.sure = set()           # of NEEDS_MORE what more than one segment speaks for
 
     def add(self, kind, segment=None, captured="", reference="", count=1):
@@ -45,7 +46,7 @@ class Found:
 
     def differences(self):
         """All of them; where the capture leaves doubts, what depends on them is unjudged."""
-        doubted = NEEDS_WHOLE if any(kind in self.by_kind for kind in DOUBTS) else NEEDS_WIRE if self.wire else ()
+        doubted = NEEDS_WHOLE if self.doubt or any(kind in self.by_kind for kind in DOUBTS) else NEEDS_WIRE if self.wire else ()
         for kind in (*doubted, *(kind for kind in NEEDS_MORE if kind not in self.sure)):
             if kind in self.by_kind:
                 self.by_kind[kind].verdict = "unjudged"

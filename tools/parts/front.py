@@ -97,6 +97,7 @@ class Run:
     counts: dict
     ports: links.Ports | None = None
     notes: list = field(default_factory=list)       # what was done beside plain serving, in words
+    files: list = field(default_factory=list)       # the captures that were named, unpacked, with their links and ports
 
 
 class Explained(Refused):
@@ -211,9 +212,14 @@ def files_of(names):
             yield name
 
 
+def plain_files(names, folder, told):
+    """The captures of these names, each as a plain file."""
+    return [opened(path, folder, n, told) for n, path in enumerate(files_of(names))]
+
+
 def prepared(asked, folder, told):
     """The captures as sqrun reads them: the files themselves, or one of raw IP in the folder. Answers them, the ports, and notes."""
-    paths = [opened(path, folder, n, told) for n, path in enumerate(files_of(asked.files))]
+    paths = plain_files(asked.files, folder, told)
     if not asked.ports and len(paths) == 1 and links.is_plain(paths[0], map_file(paths[0])):
         return paths, None, []
     return convert(paths, folder, asked.ports, told)
@@ -225,14 +231,16 @@ def convert(paths, folder, table, told):
     end = place(folder, "raw", paths[0].name)
     links.convert(paths, end, ports, told.tell)
     told.end()
+    unused = [f"no segment to or from port {real}" for real in table if ports and real not in ports.real.values()]
     notes = [f"{'its packets' if len(paths) == 1 else f'{len(paths)} captures'} turned into raw IP" + "".join(
         f", port {real} into {port}" for real, port in table.items())]
-    return [end], ports, notes
+    return [end], ports, notes + unused
 
 
 def run(asked, folder, told):
     """Serves the files. Refused with sqrun's line and what it means, where there is no report."""
-    captures, ports, notes = prepared(asked, folder, told)
+    files = plain_files(asked.files, folder, told)
+    captures, ports, notes = prepared(Asked(files, asked.words, asked.ports), folder, told)
     made = serve(asked, captures, folder, told)
     if made is not None and made.counts["other"] and not notes and any(links.has_stacked_tags(path) for path in captures):
         captures, ports, notes = convert(captures, folder, {}, told)
@@ -240,7 +248,7 @@ def run(asked, folder, told):
     if made is None:
         made = shard(asked, captures, folder, told)
         notes = notes + ["served in shards, since one run is limited"]
-    made.ports = ports
+    made.ports, made.files = ports, files
     made.notes = notes + [builds.NOTE] * builds.is_unproved(builds.command("sqrun", asked.sqrun))
     return made
 

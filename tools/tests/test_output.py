@@ -30,10 +30,10 @@ class Output(unittest.TestCase):
     def commands(self):
         """Each way of each tool to write a file: the words before `-o FILE`, and the option."""
         sq, sqdiff, sqrun = TOOLS / "sq", TOOLS / "sqdiff", ["--sqrun", program()]
-        yield from (([sq, *sqrun, *shape, self.capture], "-o") for shape in ((), ("--json",), ("--page",), ("--pcap",)))
+        yield from (([sq, *sqrun, *shape, self.capture], "-o") for shape in ((), ("--report",), ("--json",), ("--csv",), ("--page",), ("--pcap",)))
         yield [sq, *sqrun, "--quiet", self.capture], "--keep"
         yield [sq, *sqrun, "--check", self.report, self.capture], "-o"
-        yield from (([sqdiff, *sqrun, *shape, self.capture], "-o") for shape in ((), ("--json",), ("--page",), ("--svg",), ("--report", self.report)))
+        yield from (([sqdiff, *sqrun, *shape, self.capture], "-o") for shape in ((), ("--each",), ("--alone",), ("--json",), ("--csv",), ("--page",), ("--svg",), ("--report", self.report)))
         yield [TOOLS / "sqpcap", "--capture", self.capture, self.report], "-o"
         yield [TOOLS / "sqpcap", "--pcapng", "--capture", self.capture, self.report], "-o"
         yield [TOOLS / "sqplot", "--capture", self.capture, self.report], "-o"
@@ -195,7 +195,7 @@ class Pipes(unittest.TestCase):
             report = Path(folder) / "a.report"
             with open(EXAMPLE, "rb") as source, open(report, "wb") as out:
                 subprocess.run(program().split(), stdin=source, stdout=out, check=True)
-            for words in ('"$1"/sq --sqrun "$4" CAPTURE', '"$1"/sq --json --sqrun "$4" CAPTURE', '"$1"/sqdiff --sqrun "$4" CAPTURE', '"$1"/sqdiff --report "$3" CAPTURE',
+            for words in ('"$1"/sq --report --sqrun "$4" CAPTURE', '"$1"/sq --sqrun "$4" CAPTURE', '"$1"/sq --json --sqrun "$4" CAPTURE', '"$1"/sqdiff --sqrun "$4" CAPTURE', '"$1"/sqdiff --report "$3" CAPTURE',
                           '"$1"/sqdiff --report REPORT CAPTURE', '"$1"/sq --check --sqrun "$4" REPORT CAPTURE', '"$1"/sqpcap --capture CAPTURE REPORT',
                           '"$1"/sqplot --figure ladder --capture CAPTURE REPORT'):
                 with self.subTest(words):
