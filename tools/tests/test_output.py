@@ -36,6 +36,7 @@ class Output(unittest.TestCase):
         yield from (([sqdiff, *sqrun, *shape, self.capture], "-o") for shape in ((), ("--each",), ("--alone",), ("--json",), ("--csv",), ("--page",), ("--svg",), ("--report", self.report)))
         yield [TOOLS / "sqpcap", "--capture", self.capture, self.report], "-o"
         yield [TOOLS / "sqpcap", "--pcapng", "--capture", self.capture, self.report], "-o"
+        yield [TOOLS / "sqpcap", "--beside", "--capture", self.capture, self.report], "-o"
         yield [TOOLS / "sqplot", "--capture", self.capture, self.report], "-o"
         yield [TOOLS / "sqplot", "--capture", self.capture, "--figure", "ladder", self.report], "-o"
 
