@@ -16,7 +16,8 @@ NOT_PROVED = ("Nothing on this page is proved: the proof speaks of sqrun's answe
 WIDTH, LEFT, MIDDLE, RIGHT, ROW, HEAD = 1180, 110, 600, 1090, 31, 66
 MOST, FIRST, LAST = 90, 60, 25
 MOST_OTHERS = 200
-HEADS = '<tr><th>verdict<th>kind<th class="n">times<th>frames<th>captured<th>sqrun<th>section'
+STATES = {"LISTEN": "closed", "": "unknown"}        # of the captured server
+HEADS = '<tr><th>verdict<th>kind<th>captured<th>sqrun<th class="n">times<th>frames<th>section'
 STYLE = """
 .fig .arrow.MUST,.fig .arrow.SHOULD{stroke:var(--again);stroke-width:2.2}.fig text.MUST,.fig text.SHOULD{fill:var(--again)}
 """
@@ -108,7 +109,7 @@ def diagram(compared):
     frame = [text(LEFT, 20, "captured server", "b c"), text(LEFT, 35, server, "m mono c"), text(MIDDLE, 20, "client", "b c"), text(MIDDLE, 35, client, "m mono c"),
              text(RIGHT - 20, 20, f"sqrun, {compared.served.service}", "b c"), text(LEFT - 12, 52, "seconds", "m s e"),
              f'<path class="life" d="M{LEFT} 42V{bottom}M{MIDDLE} 42V{bottom}M{RIGHT} 42V{bottom}"/>',
-             text(LEFT, bottom + 18, compared.state or "unknown", "b c"), text(RIGHT - 20, bottom + 18, compared.served.end, "b c")]
+             text(LEFT, bottom + 18, STATES.get(compared.state, compared.state), "b c"), text(RIGHT - 20, bottom + 18, compared.served.ended(), "b c")]
     desc = f"{plural(len(life.server), 'segment')} of the captured server on the left, {plural(len(life.replies), 'answer')} of sqrun on the right."
     return figure(f"c{compared.number}life{compared.life}", WIDTH, bottom + 30, f"Connection {compared.number}: both servers", desc, "".join(frame + drawn.out))
 
@@ -125,8 +126,8 @@ def difference_rows(compared):
     for d in sorted(compared.differences, key=lambda d: VERDICTS.index(d.verdict)):
         kind = KINDS[d.kind]
         frames = ", ".join(map(str, d.frames)) + (" .." if d.count > len(d.frames) > 0 else "")
-        out.append(f'<tr><td class="verdict {d.verdict}">{d.verdict}<td>{escape(d.kind)}<td class="n">{d.count:,}<td>{frames}<td class="long">{escape(d.captured)}'
-                   f'<td class="long">{escape(d.reference)}<td class="section">{escape(kind.section)}')
+        out.append(f'<tr><td class="verdict {d.verdict}">{d.verdict}<td>{escape(d.kind)}<td class="long">{escape(d.captured)}'
+                   f'<td class="long">{escape(d.reference)}<td class="n">{d.count:,}<td>{frames}<td class="section">{escape(kind.section)}')
     return "".join(out)
 
 

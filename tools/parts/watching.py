@@ -496,6 +496,7 @@ class Outgoing:
         if self.past and self.heard_at > self.past[1] and self.heard_ack <= self.past[0]:       # the client took nothing of it, so it had opened no more
             self.found.sure.add("past the window")
         offloaded = self.watch.offloaded or any(len(s.datagram) > ETHERNET_MOST for s in self.watch.life.client + self.watch.life.server)
+        self.found.offloaded = self.found.offloaded or offloaded
         for s, words in self.large:
             self.found.add("larger than a packet" if offloaded else "larger than the client takes", s, words, "")
         last = {near(s.seq, self.base): s for s in self.again}
