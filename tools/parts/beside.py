@@ -15,6 +15,9 @@ NOT_PROVED = ("Nothing on this page is proved: the proof speaks of sqrun's answe
               "A capture with gaps, or taken far from the server, can mislead it.")
 WIDTH, LEFT, MIDDLE, RIGHT, ROW, HEAD = 1180, 110, 600, 1090, 31, 66
 MOST, FIRST, LAST = 90, 60, 25
+MOST_OTHERS = 200
+STATES = {"LISTEN": "closed", "": "unknown"}        # of the captured server
+HEADS = '<tr><th>verdict<th>kind<th>captured<th>sqrun<th class="n">times<th>frames<th>section'
 STYLE = """
 .fig .arrow.MUST,.fig .arrow.SHOULD{stroke:var(--again);stroke-width:2.2}.fig text.MUST,.fig text.SHOULD{fill:var(--again)}
 """
@@ -106,7 +109,7 @@ def diagram(compared):
     frame = [text(LEFT, 20, "captured server", "b c"), text(LEFT, 35, server, "m mono c"), text(MIDDLE, 20, "client", "b c"), text(MIDDLE, 35, client, "m mono c"),
              text(RIGHT - 20, 20, f"sqrun, {compared.served.service}", "b c"), text(LEFT - 12, 52, "seconds", "m s e"),
              f'<path class="life" d="M{LEFT} 42V{bottom}M{MIDDLE} 42V{bottom}M{RIGHT} 42V{bottom}"/>',
-             text(LEFT, bottom + 18, compared.state or "unknown", "b c"), text(RIGHT - 20, bottom + 18, compared.served.end, "b c")]
+             text(LEFT, bottom + 18, STATES.get(compared.state, compared.state), "b c"), text(RIGHT - 20, bottom + 18, compared.served.ended(), "b c")]
     desc = f"{plural(len(life.server), 'segment')} of the captured server on the left, {plural(len(life.replies), 'answer')} of sqrun on the right."
     return figure(f"c{compared.number}life{compared.life}", WIDTH, bottom + 30, f"Connection {compared.number}: both servers", desc, "".join(frame + drawn.out))
 
@@ -123,8 +126,8 @@ def difference_rows(compared):
     for d in sorted(compared.differences, key=lambda d: VERDICTS.index(d.verdict)):
         kind = KINDS[d.kind]
         frames = ", ".join(map(str, d.frames)) + (" .." if d.count > len(d.frames) > 0 else "")
-        out.append(f'<tr><td class="verdict {d.verdict}">{d.verdict}<td>{escape(d.kind)}<td class="n">{d.count:,}<td>{frames}<td class="long">{escape(d.captured)}'
-                   f'<td class="long">{escape(d.reference)}<td class="section">{escape(kind.section)}')
+        out.append(f'<tr><td class="verdict {d.verdict}">{d.verdict}<td>{escape(d.kind)}<td class="long">{escape(d.captured)}'
+                   f'<td class="long">{escape(d.reference)}<td class="n">{d.count:,}<td>{frames}<td class="section">{escape(kind.section)}')
     return "".join(out)
 
 
@@ -132,15 +135,18 @@ def one(compared, drawn):
     conn, life = compared.conn, f", life {compared.life + 1}" if compared.life else ""
     client, server = conn.tuple.split(" ")
     where = escape(display_filter(conn.tuple))
-    table = (f'<div class="rows"><table><tr><th>verdict<th>kind<th class="n">times<th>frames<th>captured server<th>sqrun<th>section{difference_rows(compared)}'
-             '</table></div>')
+    parts = f'<p>Parts from the reference at frame {compared.parted.segment.record + 1}; {compared.parted.left} % not compared.</p>' if compared.parted else ""
+    table = f'{parts}<div class="rows"><table>{HEADS}{difference_rows(compared)}</table></div>'
     return (f'<section id="conn{compared.number}life{compared.life}"><h2>Connection {compared.number}{life}: {escape(conn.tuple.replace(" ", " → "))}</h2>'
             f'<p class="quiet">Display filter: <code>{where}</code></p>{table}'
             + (f'<div class="fit">{diagram(compared)}</div>' if drawn else "") + "</section>")
 
 
-def page(title, outcome, compared, summary, drawn, notes):
-    """The whole page; `drawn` are the places in `compared` whose diagrams are shown. Connections without a difference are counted in the outcome alone."""
+def page(title, outcome, compared, others, summary, drawn, notes):
+    """The whole page; `drawn` are the places in `compared` whose diagrams are shown, `others` what was judged by the segments alone.
+
+    Connections without a difference are counted in the outcome alone.
+    """
     head = ("<!DOCTYPE html>\n<html lang=\"en\"><head><meta charset=\"utf-8\">"
             "<meta http-equiv=\"Content-Security-Policy\" content=\"default-src 'none'; style-src 'unsafe-inline'\">"
             "<meta name=\"viewport\" content=\"width=device-width\">"
@@ -156,8 +162,22 @@ def page(title, outcome, compared, summary, drawn, notes):
     if left:
         out.append(f'<p class="quiet">Drawn are the {len(drawn):,} that differ most; {left:,} are listed without a diagram. --conn names others.</p>')
     out += [one(compared[n], n in drawn) for n in shown]
+    out += [by_segments(one) for one in others[:MOST_OTHERS]]
+    if len(others) > MOST_OTHERS:
+        out.append(f'<p class="quiet">{len(others) - MOST_OTHERS:,} more were judged by their segments alone.</p>')
     return "".join(out) + "</main></body></html>\n"
 
 
+def place(one):
+    """Where a page has what is told of one side of a life."""
+    return f"conn{one.number}life{one.life}" if one.side == "server" and one.number is not None else f"{one.side}{one.ends}life{one.life}".replace(" ", "-")
+
+
+def by_segments(one):
+    """One side of a connection, by the rules that need no reference."""
+    return (f'<section id="{escape(place(one))}"><h2>{escape(one.name())}</h2><p class="quiet">Judged by the segments alone.</p>'
+            f'<div class="rows"><table>{HEADS}{difference_rows(one)}</table></div></section>')
+
+
 def links_of(first):
-    return ", ".join(f'<a href="#conn{c}life{life}">{c}</a>' for c, life in first)
+    return ", ".join(f'<a href="#{escape(place(one))}">{one.number if one.number is not None else escape(one.ends.split(" ")[one.side == "server"])}</a>' for one, _ in first)

@@ -55,6 +55,7 @@ class Capture:
     records: int
     last: int               # the greatest time
     files: list = field(default_factory=list)       # (name, its first record) of each file
+    cut: bool = False       # whether a file ends inside a record
 
     def frame(self, record):
         """The file that a record stands in, and its number there as Wireshark counts, from 1."""
@@ -121,7 +122,7 @@ def read(names, verify=False, most=MOST_CONNECTIONS):
     `verify` leaves out segments with a wrong checksum, as sqrun --verify does. At most `most` connections are kept, as in one run;
     None keeps all, as in a merged report.
     """
-    conns, files, broken, number, last, link = {}, [], {}, 0, 0, None
+    conns, files, broken, number, last, link, cut = {}, [], {}, 0, 0, None, False
     for name, data in sources([names] if isinstance(names, (str, Path)) else names):
         records = Records(name, data)
         files.append((name, number))
@@ -137,11 +138,11 @@ def read(names, verify=False, most=MOST_CONNECTIONS):
             number += 1
         if link not in (None, records.link):
             raise Refused(f"{name}: second link type {records.link}", 6)
-        link = records.link
+        link, cut = records.link, cut or records.cut
     place_broken(conns, broken)
     for conn in conns.values():
         conn.items = items(conn.client, last)
-    return Capture(list(conns.values()), number, last, files)
+    return Capture(list(conns.values()), number, last, files, cut)
 
 
 def place(conns, kind, ends, segment, most):

@@ -7,6 +7,7 @@ from pathlib import Path
 
 import builds
 import front
+import output
 import report as reports
 from drawing import plural
 from files import Refused, map_file
@@ -37,7 +38,7 @@ def check(asked, words, folder, told):
         told_lines = unmarked(asked, words, lines, captures, folder, told)
     else:
         told_lines = traced(asked, data, lines, captures, folder, told)
-    print("\n".join(told_lines))
+    output.put(asked.output, [f"{line}\n" for line in told_lines])
     return 0 if told_lines[0] == "yes" else 1
 
 

@@ -4,6 +4,7 @@ from dataclasses import dataclass, replace
 from capture import ACK, FIN, PSH, RST, SYN, Segment
 from drawing import plural, seconds
 from findings import Found
+from parting import parting, service_text, told
 from segments import MSS, SACK_PERMITTED, SCALE, TIMESTAMP, accepts, opens, option_text, options
 from served import rows
 from timeseq import lives, near
@@ -22,12 +23,14 @@ class Compared:
     served: object
     segments: object            # timeseq.Life
     differences: list
-    state: str                  # where the captured server stands at the end, as far as the capture shows
-    trip: int                   # microseconds from the SYN to its answer
+    state: str = ""             # where the captured server stands at the end, as far as the capture shows
+    trip: int = 0               # microseconds from the SYN to its answer
+    parted: object = None       # parting.Parting, where the client leaves the reference
+    unfinished: bool = False    # the capture ends while it's at work
 
 
-def compare(number, conn, served, sums):
-    """All lives of a connection, compared. `sums` says which segments have a wrong checksum."""
+def compare(number, conn, served, sums, ending):
+    """All lives of a connection, compared. `sums` says which segments have a wrong checksum, `ending` where the capture ends."""
     out, used = [], lives(conn, served)
     ends = [life.client[0].at if life.client else 1 << 63 for life in used[1:]] + [1 << 63]
     spoilt, begin = sums.spoilt.get(conn.tuple, []), 0
@@ -38,8 +41,10 @@ def compare(number, conn, served, sums):
         card = [s for s in life.server if s.record in sums.card]
         if card:
             found.add("checksums of the card", card[0], f"{len(card)} of {plural(len(life.server), 'segment')}", "none")
-        state, trip = compare_life(life, found, served.end, listed, bool(card))
-        out.append(Compared(number, n, conn, served, life, found.differences(), state, trip))
+        one = Compared(number, n, conn, served, life, [], unfinished=ending.comes_first(life, stop == 1 << 63))
+        compare_life(one, found, listed, bool(card), ending.at)
+        one.differences = found.differences()
+        out.append(one)
         begin = stop
     return out
 
@@ -82,29 +87,52 @@ def in_order(life, listed):
     return out[next((n for n, s in enumerate(out) if opens(s) and s.seq == life.irs), 0):]
 
 
-def compare_life(life, found, end, beside, offloaded):
-    """The captured server's state at the end, and the way to the capture's place and back. `beside` are the client's segments and sqrun's answers."""
+def compare_life(one, found, beside, offloaded, until):
+    """Finds what differs, and notes the captured server's state at the end. `beside` are the client's segments and sqrun's answers."""
+    life = one.segments
     if not life.server:
         found.add("no answer", life.client[0] if life.client else None, "nothing", plural(len(life.replies), "segment"))
-        return "", 0
+        return
     syn = next(filter(opens, life.client), None)
     if syn is None:
         found.add("begins inside", life.client[0] if life.client else None, plural(len(life.server), "segment"), plural(len(life.replies), "segment"))
-        return "", 0
+        return
     stretches = handshakes(life)
     if not stretches:
-        return no_syn_ack(life, syn, found), 0
+        one.state = no_syn_ack(life, syn, found)
+        return
     ours = next((s for s in life.replies if s.has(SYN)), None)
-    beside_us = next((n for n, (one, _) in enumerate(stretches) if one.irs == life.irs), 0)
+    beside_us = next((n for n, (part, _) in enumerate(stretches) if part.irs == life.irs), 0)
     found.wire = any(shake.trip >= LATE for _, shake in stretches)
-    for n, (one, shake) in enumerate(stretches):
-        watch = watched(one, shake, found, sorted(one.client + one.server, key=lambda s: s.record), offloaded)
-        compare_handshake(one, shake, found)
+    for n, (part, shake) in enumerate(stretches):
+        watch = watched(part, shake, found, by_record(part), offloaded, until)
+        compare_handshake(part, shake, found)
         if n == beside_us and ours is not None:
-            reference = watched(replace(life, server=life.replies), Handshake([syn], ours), Found(), beside, False)
-            compare_watches(one, watch, reference, found)
-    compare_end(life, watch, found, end)
-    return watch.state, stretches[beside_us][1].trip
+            one.trip = shake.trip
+            one.parted = parting(part, shake, Handshake([syn], ours))
+            beside_reference(one, part, watch, (shake, Handshake([syn], ours)), beside, found)
+    one.state = watch.state
+    compare_end(one, watch, found)
+
+
+def by_record(life):
+    return sorted(life.client + life.server, key=lambda s: s.record)
+
+
+def beside_reference(one, part, watch, shakes, beside, found):
+    """Both servers beside each other, up to where the client leaves the reference."""
+    shake, our_shake = shakes
+    if one.parted:
+        found.add("parts", one.parted.segment, told(one.parted), one.parted.reference)
+        compare_text(part, watch, service_text(part, one.served.service), found, True)
+        part = one.parted.before(part)
+        if not part.server:
+            return
+        watch = watched(part, shake, Found(), by_record(part), False, 1 << 63)
+        listed = {id(s) for s in part.client + part.replies}
+        beside = [s for s in beside if id(s) in listed]
+    reference = watched(replace(part, server=part.replies), our_shake, Found(), beside, False, 1 << 63)
+    compare_watches(one, part, watch, reference, found)
 
 
 def handshakes(life):
@@ -128,9 +156,9 @@ def handshakes(life):
             for (asked, answer), (client_end, server_end) in zip(shakes, ends)]
 
 
-def watched(life, shake, found, segments, offloaded):
-    """A server watched from the first segment to the last."""
-    watch = Watch(life, shake, found, offloaded)
+def watched(life, shake, found, segments, offloaded, until):
+    """A server watched from the first segment to the last, and to the capture's end."""
+    watch = Watch(life, shake, found, offloaded, until)
     for segment in segments:
         watch.take(segment)
     watch.end()
@@ -168,24 +196,31 @@ def inside(life, segment):
 NAMED = ((MSS, "maximum segment size"), (SCALE, "window scale"), (SACK_PERMITTED, "selective acknowledgements"), (TIMESTAMP, "timestamps"))
 
 
-def compare_handshake(life, shake, found):
+def judge_handshake(life, shake, found):
+    """What the answer to a SYN must and must not have."""
     answer = shake.answer
-    ours = next((r for r in life.replies if r.has(SYN)), None)
     if not any(1 <= near(answer.ack, syn.seq) <= syn.span() for syn in shake.syns) and not taken(life.client, answer):
         found.add("SYN acknowledged wrongly", answer, f"ack {near(answer.ack, shake.syns[0].seq)}", "ack 1")
+    for kind, name in NAMED:
+        if kind in (SCALE, TIMESTAMP) and kind in shake.offered and kind not in shake.asked:
+            found.add(f"{name} unasked", answer, option_text(kind, shake.offered), "none")
+    if SCALE in shake.offered and shake.offered[SCALE][0] > 14:
+        found.add("window scale over 14", answer, option_text(SCALE, shake.offered), "at most 14")
+    again = [s for s in life.server if s.has(SYN)]
+    judge_timeouts([s.at for s in unasked(again, life.client)], again[-1], found)
+
+
+def compare_handshake(life, shake, found):
+    judge_handshake(life, shake, found)
+    ours = next((r for r in life.replies if r.has(SYN)), None)
     theirs = options(ours) if ours else {}
     for kind, name in NAMED:
         one, other = option_text(kind, shake.offered), option_text(kind, theirs)
         if one != other:
-            found.add(name, answer, one, other)
-        if kind in (SCALE, TIMESTAMP) and kind in shake.offered and kind not in shake.asked:
-            found.add(f"{name} unasked", answer, one, other)
-    if SCALE in shake.offered and shake.offered[SCALE][0] > 14:
-        found.add("window scale over 14", answer, option_text(SCALE, shake.offered), "at most 14")
+            found.add(name, shake.answer, one, other)
     again, again_ours = ([s for s in segments if s.has(SYN)] for segments in (life.server, life.replies))
     if len(again) != len(again_ours):
         found.add("SYN,ACK again", again[min(1, len(again) - 1)], times(again), times(again_ours))
-    judge_timeouts([s.at for s in unasked(again, life.client)], again[-1], found)
 
 
 def taken(client, answer):
@@ -212,22 +247,35 @@ def times(segments):
 
 # Both servers beside each other.
 
-def compare_watches(life, watch, reference, found):
-    compare_streams(life, watch, reference, found)
+def compare_watches(one, life, watch, reference, found):
+    if not one.parted:
+        compare_text(life, watch, reference.outgoing.stream.whole(), found)
+        compare_length(one, watch, reference, found)
     compare_cuts(life, watch, found)
     compare_acknowledgements(life, watch, reference, found)
     compare_windows(watch, reference, found)
     compare_again(life, watch, reference, found)
 
 
-def compare_streams(life, watch, reference, found):
-    theirs, ours = watch.outgoing.stream.whole(), reference.outgoing.stream.whole()
-    same = next((n for n, (a, b) in enumerate(zip(theirs, ours)) if a != b), None)
+def compare_text(life, watch, wanted, found, is_whole=False):
+    """What the server sent against this text, which is whole or a front of the right one."""
+    theirs = watch.outgoing.stream.whole()
+    same = next((n for n, (a, b) in enumerate(zip(theirs, wanted)) if a != b), None)
+    if same is None and is_whole and len(theirs) > len(wanted):
+        same = len(wanted)
     if same is not None:
         first = next((s for s in life.server if s.length and near(s.seq, watch.base) <= same + 1 < near(s.seq, watch.base) + s.length), None)
-        found.add("text", first, f"byte {same + 1} on is {theirs[same:same + 8]!r}", f"{ours[same:same + 8]!r}")
-    if watch.outgoing.length() != len(ours):
-        found.add("length of the text", None, f"{watch.outgoing.length():,} bytes", f"{len(ours):,} bytes")
+        found.add("text", first, f"byte {same + 1} on is {theirs[same:same + 8]!r}", f"{wanted[same:same + 8]!r}")
+
+
+def compare_length(one, watch, reference, found):
+    theirs, ours = watch.outgoing.length(), len(reference.outgoing.stream.whole())
+    if theirs == ours:
+        return
+    if one.unfinished and theirs < ours:
+        found.add("capture ends first", None, f"{theirs:,} bytes of text so far", f"{ours:,} bytes")
+    else:
+        found.add("length of the text", None, f"{theirs:,} bytes", f"{ours:,} bytes")
 
 
 def cuts(segments, base):
@@ -313,10 +361,18 @@ def timed(segments, life):
     return ", at " + ", ".join(seconds(s.at - begun) for s in segments[:4]) + (" .." if len(segments) > 4 else "")
 
 
-def compare_end(life, watch, found, end):
+def compare_end(one, watch, found):
+    """How both servers end. Where the client left the reference, or the capture ends first, only what was sent is told."""
+    life, end = one.segments, one.served.end
     theirs, ours = (next((s for s in segments if s.has(FIN)), None) for segments in (life.server, life.replies))
+    if one.parted:
+        return
     if theirs is not None and theirs.length:
         found.add("FIN with text", theirs, f"with {plural(theirs.length, 'byte')}", "alone" if ours is not None else "no FIN")
+    if one.unfinished:
+        if theirs is None and ours is not None or watch.state != end and theirs is None:
+            found.add("capture ends first", None, f"in {watch.state or 'no state'}", f"in {end}")
+        return
     if (theirs is None) != (ours is None):
         found.add("FIN", theirs, "sent" if theirs is not None else "not sent", "sent" if ours is not None else "not sent")
     theirs, ours = ([s for s in segments if s.has(RST)] for segments in (life.server, life.replies))

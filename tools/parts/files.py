@@ -6,6 +6,7 @@ are not checked here: what is past them sqrun itself refuses.
 import mmap
 import os
 import stat
+import sys
 from struct import Struct, unpack_from
 
 from packets import LINK_SIZE
@@ -35,8 +36,17 @@ class Refused(Exception):
         self.status = status
 
 
+def standard_in():
+    """Standard input, as bytes."""
+    if sys.stdin is None:
+        raise Refused("standard input is closed", 4)
+    return sys.stdin.buffer
+
+
 def map_file(path):
-    """A file's bytes, without a copy of them in memory where it is a plain file."""
+    """A file's bytes, without a copy of them in memory where it is a plain file; `-` is standard input."""
+    if str(path) == "-":
+        return standard_in().read()
     with open(path, "rb") as f:
         state = os.fstat(f.fileno())
         if not stat.S_ISREG(state.st_mode):

@@ -11,6 +11,9 @@ NEEDS_WHOLE = ("SYN acknowledged wrongly", "acknowledged too late", "acknowledge
 # What a long or lossy wire can do to a right server: unjudged where it's far, or where either side sent again.
 NEEDS_WIRE = ("acknowledged too late", "acknowledged too seldom", "acknowledged before it came", "gap not acknowledged", "window not probed")
 
+# What a card that cuts and joins segments does to a right server: what it acknowledges at once came at once.
+NEEDS_PACKETS = ("acknowledged too seldom", "gap not acknowledged")
+
 # What a capture that lacks a single segment makes of a right server: unjudged, unless more of the connection speaks for it (`Found.sure`).
 NEEDS_MORE = ("acknowledged too late", "past the window")
 
@@ -31,6 +34,8 @@ class Found:
     def __init__(self):
         self.by_kind = {}
         self.wire = False           # the wire may count: the server is far, or something was sent again
+        self.doubt = False          # the capture isn't whole
+        self.offloaded = False      # a card cuts and joins segments
         self.sure = set()           # of NEEDS_MORE what more than one segment speaks for
 
     def add(self, kind, segment=None, captured="", reference="", count=1):
@@ -45,8 +50,9 @@ class Found:
 
     def differences(self):
         """All of them; where the capture leaves doubts, what depends on them is unjudged."""
-        doubted = NEEDS_WHOLE if any(kind in self.by_kind for kind in DOUBTS) else NEEDS_WIRE if self.wire else ()
-        for kind in (*doubted, *(kind for kind in NEEDS_MORE if kind not in self.sure)):
+        doubted = NEEDS_WHOLE if self.doubt or any(kind in self.by_kind for kind in DOUBTS) else NEEDS_WIRE if self.wire else ()
+        joined = NEEDS_PACKETS if self.offloaded or "larger than a packet" in self.by_kind else ()
+        for kind in (*doubted, *joined, *(kind for kind in NEEDS_MORE if kind not in self.sure)):
             if kind in self.by_kind:
                 self.by_kind[kind].verdict = "unjudged"
         return list(self.by_kind.values())

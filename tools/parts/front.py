@@ -6,19 +6,19 @@ import os
 import re
 import shlex
 import shutil
-import signal
 import subprocess
 import sys
 import time
-from contextlib import contextmanager
+from contextlib import contextmanager, nullcontext
 from dataclasses import dataclass, field
 from pathlib import Path
 
 import builds
 import drawing
 import links
+import output
 from capture import captures_of
-from files import MAGICS, SECTION, Refused, map_file, plain
+from files import MAGICS, SECTION, Refused, map_file, plain, standard_in
 from packets import KINDS, SERVICES
 from refusals import explained
 
@@ -97,6 +97,7 @@ class Run:
     counts: dict
     ports: links.Ports | None = None
     notes: list = field(default_factory=list)       # what was done beside plain serving, in words
+    files: list = field(default_factory=list)       # the captures that were named, unpacked, with their links and ports
 
 
 class Explained(Refused):
@@ -107,22 +108,20 @@ class Explained(Refused):
         self.meaning = explained(line)
 
 
-def lines_of(fault):
-    """What a terminal is told of a fault, in one line or two."""
-    if isinstance(fault, OSError) and fault.filename:
-        return f"{fault.strerror}: {plain(repr(fault.filename))}"
+def complain(tool, fault):
+    """Tells a fault in one line or two; its status."""
+    text, status = output.told(fault)
     meaning = getattr(fault, "meaning", "")
-    return plain(fault) + (f"\n{meaning}" if meaning else "")
+    print(f"{tool}: {plain(text)}" + (f"\n{meaning}" if meaning else ""), file=sys.stderr)
+    return status
 
 
 def opened(path, folder, number, told):
-    """The file itself, or its unpacked bytes in the folder. `-` is standard input, and a folder may be a shard of sqshard's."""
+    """The file itself, or its bytes in the folder, unpacked. `-` is standard input, any pipe will do, and a folder may be a shard of sqshard's."""
     try:
-        if path == "-":
-            told.begin("reading", 0)
-            path = copied(sys.stdin.buffer, place(folder, f"input-{number}", "standard input"), told)
-        elif (Path(path) / "0-head").is_file():
+        if (Path(path) / "0-head").is_file():
             return joined(Path(path), place(folder, f"shard-{number}", Path(path).name))
+        path = kept(path, folder, number, told)
         with open(path, "rb") as data:
             start = data.read(8)
         packed = [opener for magic, opener in PACKED if start.startswith(magic)]
@@ -131,9 +130,21 @@ def opened(path, folder, number, told):
         told.begin("unpacking", 0)
         return unpacked(path, packed[0], place(folder, f"unpacked-{number}", Path(path).name), told)
     except (EOFError, gzip.BadGzipFile, lzma.LZMAError, OSError, ValueError) as fault:
+        if getattr(fault, "errno", None) in output.FULL:
+            raise
         raise Refused(f"{str(path)!r}: {getattr(fault, 'strerror', None) or fault}", 4) from None
     finally:
         told.end()
+
+
+def kept(path, folder, number, told):
+    """A file that can be read again: standard input and pipes are copied."""
+    if path != "-" and (os.path.isfile(path) or os.path.isdir(path) or not os.path.exists(path)):
+        return path
+    told.begin("reading", 0)
+    name = "standard input" if path == "-" else Path(path).name
+    with nullcontext(standard_in()) if path == "-" else open(path, "rb") as source:
+        return copied(source, place(folder, f"input-{number}", name), told)
 
 
 def joined(shard, end):
@@ -192,12 +203,6 @@ def bounded(path, opener):
         raise Refused(f"{str(path)!r}: {said.decode(errors='replace').strip()[:200]!r}", 4)
 
 
-def writable(path):
-    """Refuses a place where nothing can be written before there is anything to write."""
-    if path and (os.path.isdir(path) or not os.access(path if os.path.exists(path) else os.path.dirname(path) or ".", os.W_OK)):
-        raise Refused(f"{path!r}: {'it is a folder' if os.path.isdir(path) else 'nothing can be written there'}", 2)
-
-
 def files_of(names):
     """The files of these names; a folder of sqshard's stands for its captures."""
     for name in names:
@@ -207,9 +212,14 @@ def files_of(names):
             yield name
 
 
+def plain_files(names, folder, told):
+    """The captures of these names, each as a plain file."""
+    return [opened(path, folder, n, told) for n, path in enumerate(files_of(names))]
+
+
 def prepared(asked, folder, told):
     """The captures as sqrun reads them: the files themselves, or one of raw IP in the folder. Answers them, the ports, and notes."""
-    paths = [opened(path, folder, n, told) for n, path in enumerate(files_of(asked.files))]
+    paths = plain_files(asked.files, folder, told)
     if not asked.ports and len(paths) == 1 and links.is_plain(paths[0], map_file(paths[0])):
         return paths, None, []
     return convert(paths, folder, asked.ports, told)
@@ -221,14 +231,16 @@ def convert(paths, folder, table, told):
     end = place(folder, "raw", paths[0].name)
     links.convert(paths, end, ports, told.tell)
     told.end()
+    unused = [f"no segment to or from port {real}" for real in table if ports and real not in ports.real.values()]
     notes = [f"{'its packets' if len(paths) == 1 else f'{len(paths)} captures'} turned into raw IP" + "".join(
         f", port {real} into {port}" for real, port in table.items())]
-    return [end], ports, notes
+    return [end], ports, notes + unused
 
 
 def run(asked, folder, told):
     """Serves the files. Refused with sqrun's line and what it means, where there is no report."""
-    captures, ports, notes = prepared(asked, folder, told)
+    files = plain_files(asked.files, folder, told)
+    captures, ports, notes = prepared(Asked(files, asked.words, asked.ports), folder, told)
     made = serve(asked, captures, folder, told)
     if made is not None and made.counts["other"] and not notes and any(links.has_stacked_tags(path) for path in captures):
         captures, ports, notes = convert(captures, folder, {}, told)
@@ -236,7 +248,7 @@ def run(asked, folder, told):
     if made is None:
         made = shard(asked, captures, folder, told)
         notes = notes + ["served in shards, since one run is limited"]
-    made.ports = ports
+    made.ports, made.files = ports, files
     made.notes = notes + [builds.NOTE] * builds.is_unproved(builds.command("sqrun", asked.sqrun))
     return made
 
@@ -306,11 +318,6 @@ def waited(running, told):
         except subprocess.TimeoutExpired:
             told.tick()
     return running.stderr.read().decode(errors="replace").strip()
-
-
-def end_on_term():
-    """Told to stop, a tool removes its temporary files and ends its programs first."""
-    signal.signal(signal.SIGTERM, lambda *_: sys.exit(143))
 
 
 def counted(report):

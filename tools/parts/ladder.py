@@ -98,9 +98,9 @@ def draw(ident, number, conn, served, lives, calls, alone=False):
     frame = [text(LEFT, 20, "client", "b c"), text(LEFT, 35, client, "m mono c"),
              text(RIGHT, 20, f"sqrun, {conn.service}", "b c"), text(RIGHT, 35, server, "m mono c"),
              f'<path class="life" d="M{LEFT} 42V{bottom}M{RIGHT} 42V{bottom}"/>',
-             text(RIGHT, bottom + 18, served.end, "b c"), text(LEFT - 12, 52, "seconds", "m s e")]
+             text(RIGHT, bottom + 18, served.ended(), "b c"), text(LEFT - 12, 52, "seconds", "m s e")]
     desc = (f"{plural(len(conn.client), 'segment')} from the client and {len(served.replies):,} {'reply' if len(served.replies) == 1 else 'replies'}, "
-            f"in the order served; it ends in {served.end}.")
+            f"in the order served; at the end: {served.ended()}.")
     return figure(ident, WIDTH if beside or not alone else RIGHT + LEFT, bottom + 30, f"Connection {number}: who sent what", desc, "".join(frame + ladder.out))
 
 

@@ -76,7 +76,7 @@ def begin_of(conn, served):
 
 def about(c, conn, served, whole, lives, reasons, marked):
     """The lines below a connection's name."""
-    out = [f'<p class="quiet">{plural(len(conn.client), "segment")} from the client, {replies(len(served.replies))}; it ends in {escape(served.end)}.'
+    out = [f'<p class="quiet">{plural(len(conn.client), "segment")} from the client, {replies(len(served.replies))}; at the end: {served.ended()}.'
            + (f" Its address pair was used {len(lives)} times." if len(lives) > 1 else "") + (f" See: {', '.join(reasons)}." if reasons else "") + "</p>"]
     begins = f"Begins {clock(begin_of(conn, served))}"
     if conn.client:
@@ -117,15 +117,24 @@ def connection(c, report, whole, reasons, few):
 
 
 SHORT = ("client", "server", "service", "begins", "end")     # columns of words that stay on one line
-COLUMNS = (("#", 1), ("client", 0), ("server", 0), ("service", 0), ("begins", 0), ("ms", 1), ("segments", 1), ("replies", 1), ("bytes", 1), ("again", 1),
-           ("end", 0), ("see", 0))
+COLUMNS = (("#", 1), ("client", 0), ("server", 0), ("service", 0), ("begins", 0), ("ms", 1), ("segments", 1), ("client's bytes", 1), ("captured server's", 1),
+           ("replies", 1), ("sqrun's bytes", 1), ("again", 1), ("end", 0), ("see", 0))
 
 
 def row(c, conn, served, interest):
     a, b = conn.tuple.split(" ")
     times = [s.at for s in conn.client] + [s.at for s in served.replies]
-    return [c, a, b, served.service, clock(min(times, default=0), date=False), (max(times, default=0) - min(times, default=0)) // 1000, len(conn.client),
-            len(served.replies), sum(r.length for r in served.replies), interest.again, served.end, "; ".join(interest.reasons)]
+    return [c, a, b, served.service, clock(min(times, default=0), date=False), (max(times, default=0) - min(times, default=0)) / 1000, len(conn.client),
+            texts(conn.client), texts(conn.server), len(served.replies), texts(served.replies), interest.again, served.ended(), "; ".join(interest.reasons)]
+
+
+def texts(segments):
+    return sum(s.length for s in segments)
+
+
+def number(value):
+    """A whole number, or one with up to three places, as the script writes it."""
+    return f"{value:,}" if isinstance(value, int) else f"{value:,.3f}".rstrip("0").rstrip(".")
 
 
 def table(whole, report, drawn, interests):
@@ -135,7 +144,7 @@ def table(whole, report, drawn, interests):
     head = "".join(f'<th{" class=n" * numeric}>{name}' for name, numeric in COLUMNS)
     buttons = "".join(f'<th{" class=n" * numeric}><button type="button">{name}</button>' for name, numeric in COLUMNS)
     plain = "".join("<tr>" + "".join(f'<td{" class=n" * numeric}{" class=short" * (name in SHORT)}>' + (f'<a href="#conn{value}">{value}</a>' if name == "#" and value in has else escape(
-        f"{value:,}" if isinstance(value, int) and name != "#" else str(value))) for (name, numeric), value in zip(COLUMNS, one)) for one in rows[:PLAIN_MOST])
+        number(value) if numeric and name != "#" else str(value))) for (name, numeric), value in zip(COLUMNS, one)) for one in rows[:PLAIN_MOST])
     return ('<div class="list" hidden><form role="search"><label>Filter <input type="search" placeholder="address, state, again .."></label>'
             '<span class="count quiet" aria-live="polite"></span><span class="quiet">Click a column\'s name to sort.</span></form>'
             f'<div class="rows"><table><thead><tr>{buttons}</thead><tbody></tbody></table></div><button type="button" class="more">more</button>'

@@ -47,6 +47,12 @@ class Served:
             else:
                 yield one
 
+    def ended(self):
+        """How it stands at the end: sqrun is in LISTEN again behind a close or a reset, and where nothing was ever opened."""
+        if self.end != "LISTEN":
+            return self.end
+        return "closed" if any(r.flags & 2 for r in self.replies) else "never open"
+
     def feeds(self):
         """One more than the greatest feed's number."""
         return max((one.stop for one in self.order if isinstance(one, range)), default=0)

@@ -1,11 +1,11 @@
 """What happened on a connection, in the order in which it was served: segments, times, calls, and the replies to each."""
-import sys
+from contextlib import nullcontext
 from pathlib import Path
 
 import capture
 import report as reports
 from capture import Capture, Segment
-from files import Refused
+from files import MAGICS, SECTION, Refused, standard_in
 
 PLACED = ("A report gives each reply's time and not what it answers. Where several segments have that time, a reply is placed after the one that it "
           "acknowledges: a guess for the eye.")
@@ -19,11 +19,12 @@ def load_whole(report_name, capture_names=None, datagrams=True):
     name = "standard input" if report_name == "-" else report_name
     names = [capture_names] if isinstance(capture_names, (str, Path)) else list(capture_names or ())
     try:
-        if report_name == "-":
-            report = reports.read_lines(sys.stdin.buffer, name, datagrams)
-        else:
-            with open(report_name, "rb") as lines:
-                report = reports.read_lines(lines, name, datagrams)
+        if report_name == "-" and "-" in names:
+            raise Refused("standard input is the report, and can't be its capture too", 2)
+        with nullcontext(standard_in()) if report_name == "-" else open(report_name, "rb") as lines:
+            if lines.peek(4)[:4] in (*MAGICS, SECTION):
+                raise Refused(f"{name} is a capture, and a report of it is wanted: `tools/sq --page`, `tools/sq --pcap` and `tools/sqdiff` take captures", 2)
+            report = reports.read_lines(lines, name, datagrams)
         if not names:
             return report, Capture(reports.without_capture(report), 0, 0)
         whole = capture.read(names, report.verified(), report.most())

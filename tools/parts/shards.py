@@ -21,6 +21,7 @@ import json
 import os
 import re
 import shutil
+import stat
 import sys
 from array import array
 from struct import Struct
@@ -39,6 +40,7 @@ REST_WEIGHT = MOST_BYTES - MOST_BODY - 1024
 HELD_BYTES = 64 << 20
 READ_BYTES = 4 << 20
 FILE_HEAD = Struct("<IHHIIII")
+FOLDERS = ("tables", "files", "dealt", "shards", "reports", "sums", "logs")
 
 
 def replace(path, data):
@@ -76,9 +78,13 @@ def begin(work, captures, verify, piece_bytes=PIECE_BYTES):
     listed = []
     for path in captures:
         state = os.stat(path)
+        if not stat.S_ISREG(state.st_mode):
+            raise Refused(f"{path!r} is no plain file, and sqshard reads each more than once: keep it in a file first", 2)
         listed.append({"path": os.path.abspath(path), "size": state.st_size, "changed": state.st_mtime_ns})
     asked = {"verify": verify, "captures": listed}
-    for folder in ("tables", "files", "dealt", "shards", "reports", "sums", "logs"):
+    if work.is_dir() and not (work / "captures.json").exists() and (others := sorted(path.name for path in work.iterdir() if not is_ours(path))):
+        raise Refused(f"{str(work)!r} is no folder of sqshard's, and has {others[0]!r}: name a new one", 2)
+    for folder in FOLDERS:
         (work / folder).mkdir(parents=True, exist_ok=True)
     if not (work / "captures.json").exists():
         replace(work / "words", b"--verify\n" if verify else b"\n")
@@ -92,6 +98,13 @@ def begin(work, captures, verify, piece_bytes=PIECE_BYTES):
                 lines.append(" ".join(map(str, (name(count), number, *piece))))
                 count += 1
         replace(work / "pieces", "".join(f"{line}\n" for line in lines).encode())
+
+
+def is_ours(path):
+    """Whether it's what a stage leaves that was ended while it began."""
+    if path.is_dir():
+        return path.name in FOLDERS
+    return path.name.split(".")[0] in ("words", "captures") and path.read_bytes()[:10] in (b"", b"\n", b"--verify\n", b'{"verify":')
 
 
 def cut(path, size, piece_bytes):

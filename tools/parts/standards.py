@@ -7,7 +7,7 @@ unjudged too; where the wire is long or loses, findings.NEEDS_WIRE. Numbers like
 """
 from dataclasses import dataclass
 
-VERDICTS = ("MUST", "SHOULD", "choice", "service", "unjudged")
+VERDICTS = ("MUST", "SHOULD", "service", "unjudged", "choice")
 
 
 @dataclass(frozen=True)
@@ -38,10 +38,16 @@ KINDS = kinds(
     ("timestamps unasked", "MUST", "RFC 7323, 3.2", "They may be sent only if the SYN had them."),
     ("timestamp missing", "MUST", "RFC 7323, 3.2", "Once both sides have sent them in the handshake, each segment but a reset must have one."),
     ("maximum segment size later", "MUST", "RFC 9293, 3.2 (MUST-65)", "The option must not stand in a segment without SYN."),
+    ("window scale later", "MUST", "RFC 7323, 2.1", "The option is sent only in a segment with SYN."),
+    ("selective acknowledgements permitted later", "MUST", "RFC 2018, 2", "The option must not be sent without SYN."),
     ("SYN,ACK again", "choice", "RFC 9293, 3.8.1; RFC 6298, 2.1", "An unanswered SYN,ACK goes again; the first timeout should be one second."),
     ("congestion notification", "choice", "RFC 3168, 6.1; RFC 9768", "ECE, CWR and AE are used where both sides agreed; the reference has none."),
     ("captured twice", "unjudged", "RFC 791, 3.1", "The same datagram, by its identification, stands twice in the capture, as where it crosses a bridge; the second is left out."),
     ("not whole in the capture", "unjudged", "RFC 791, 3.1; RFC 9293, 3.1", "A record of these ends is cut short, a fragment, or malformed, so it doesn't tell what was sent. What needs a whole capture isn't judged."),
+    # Where the two can't be compared.
+    ("parts", "unjudged", "RFC 9293, 3.10.7.4", "The client follows the captured server to where the reference isn't: it acknowledges what the reference hasn't sent, or sends more "
+     "than that has room for. The reference drops it. Nothing behind is compared."),
+    ("capture ends first", "unjudged", "RFC 9293, 3.10", "The capture ends, or is cut, while the connection is at work. What the server would have sent next isn't known."),
     # Acknowledgements.
     ("acknowledged later", "choice", "RFC 9293, 3.8.6.3 (SHLD-18)", "An acknowledgement should be delayed a little, below 0.5 s. The reference sends each at once."),
     ("acknowledged too late", "MUST", "RFC 9293, 3.8.6.3 (MUST-40)", "The delay must be below 0.5 s. (Said where most of a connection's are later: the capture may lack one.)"),
@@ -49,6 +55,7 @@ KINDS = kinds(
     ("acknowledged too seldom", "SHOULD", "RFC 9293, 3.8.6.3 (SHLD-19)", "At least every second full-sized segment should be acknowledged."),
     ("acknowledged apart", "choice", "RFC 9293, 3.10.7.4", "An acknowledgement should go with text where that costs no undue delay; the service needs time, the reference's none."),
     ("gap not acknowledged", "SHOULD", "RFC 5681, 4.2; RFC 9293, 3.10.7.4 (MAY-13)", "A segment above a gap should be acknowledged at once."),
+    ("acknowledged what wasn't sent", "MUST", "RFC 9293, 3.4 and 3.10.7.4", "An acknowledgement tells the next number that is expected. Behind the other side's FIN there is none."),
     ("acknowledged before it came", "MUST", "RFC 9293, 3.4", "An acknowledgement of X says that all before X was received."),
     ("acknowledged what isn't captured", "unjudged", "RFC 9293, 3.4", "The capture has gaps, or the server acknowledges what never came. What needs a whole capture isn't judged."),
     ("text isn't captured", "unjudged", "RFC 9293, 3.4", "The client acknowledged text of the server which the capture lacks. What needs a whole capture isn't judged."),
@@ -75,6 +82,7 @@ KINDS = kinds(
     ("reserved bits", "MUST", "RFC 9293, 3.1", "Reserved bits must be zero in what is sent. (The last of the four is AE of RFC 9768.)"),
     ("urgent", "choice", "RFC 9293, 3.8.5 (SHLD-13)", "Urgent data is supported, and new applications should not use it."),
     ("wrong checksum", "unjudged", "RFC 9293, 3.1 (MUST-2, MUST-3)", "The wire may have spoilt it, or its sender computes wrong. A receiver drops it; so it is left out of all else, for sqrun too."),
+    ("checksum wrong each time", "MUST", "RFC 9293, 3.1 (MUST-2)", "A sender must compute it. (Said of a text that went three times and more, and was never taken.)"),
     ("checksums of the card", "unjudged", "RFC 9293, 3.1 (MUST-2)", "The capture was taken before the sender's card filled the sums in. All else is judged."),
     # What is sent again.
     ("sent again", "choice", "RFC 9293, 3.8.1; RFC 6298, 5", "What isn't acknowledged in time is sent again; the wire that was captured lost, the reference's timer is fixed."),

@@ -2,6 +2,10 @@
 from capture import RST
 from timeseq import kinds, lives
 
+FIELDS = ("connection", "client", "server", "service", "captured_port", "first_frame", "last_frame", "begins_us", "ends_us", "lives",
+          "client_segments", "client_bytes", "client_again", "client_resets", "server_segments", "server_bytes", "server_resets",
+          "replies", "reply_bytes", "replies_again", "reply_resets", "answers", "end")
+
 
 def lines(report, whole, ports=None):
     """A dictionary for each connection, in the report's order."""

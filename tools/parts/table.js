@@ -12,7 +12,8 @@ const near = new IntersectionObserver(seen => seen.filter(one => one.isIntersect
   near.unobserve(one.target);
   fill(one.target);
 }), {rootMargin: "800px"});
-for (const section of document.querySelectorAll("section.conn")) near.observe(section);
+const sections = [...document.querySelectorAll("section.conn")];
+for (const section of sections) sections.length > 6 ? near.observe(section) : fill(section);     // a few are there at once, for a picture of the page
 const go = () => {
   const section = /^#conn\d+$/.test(location.hash) && document.querySelector(location.hash);
   if (!section) return;

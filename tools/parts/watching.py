@@ -53,8 +53,8 @@ def judge_timeouts(sent, last, found):
 class Watch:
     """The captured connection in order: what the client sent and had room for, what the server acknowledged and sent."""
 
-    def __init__(self, life, shake, found, offloaded):
-        self.life, self.shake, self.found, self.offloaded = life, shake, found, offloaded
+    def __init__(self, life, shake, found, offloaded, until):
+        self.life, self.shake, self.found, self.offloaded, self.until = life, shake, found, offloaded, until
         self.incoming, self.outgoing = Incoming(self), Outgoing(self)
         self.state = "LISTEN"
         self.client_fin = self.server_fin = None
@@ -90,6 +90,8 @@ class Watch:
             return
         if s.has(SYN):
             self.incoming.syn(s)
+            if s.has(ACK):              # the other side is a server: its window holds from here
+                self.outgoing.heard(s)
             return
         self.outgoing.heard(s)
         self.incoming.brought(s)
@@ -108,6 +110,10 @@ class Watch:
     def base(self):
         return self.shake.answer.seq
 
+    def goes_on(self, s):
+        """Whether the segment's number is one of this connection, and not of one that the capture has no SYN of."""
+        return 0 <= near(s.seq, self.base) <= self.outgoing.top + 1
+
     def form(self, s):
         """What each segment of a server must look like."""
         tcp, flags, held, found = header(s), all_flags(s), options(s), self.found
@@ -122,6 +128,9 @@ class Watch:
             found.add("congestion notification", s, "+".join(told), "none")
         if MSS in held and not flags & SYN:
             found.add("maximum segment size later", s, option_text(MSS, held), "none")
+        for kind, name in ((SCALE, "window scale later"), (SACK_PERMITTED, "selective acknowledgements permitted later")):
+            if kind in held and not flags & SYN:
+                found.add(name, s, option_text(kind, held), "none")
         if SACK in held and SACK_PERMITTED not in self.shake.asked:
             found.add("selective acknowledgements unasked", s, "yes", "none")
         if TIMESTAMP in held and TIMESTAMP not in self.shake.asked and not flags & SYN:
@@ -232,6 +241,10 @@ class Incoming:
             return
         ack = near(s.ack, self.irs)
         self.pure += not s.span()
+        fin = self.watch.client_fin
+        if fin is not None and ack > max(fin + 1, self.top) and self.watch.goes_on(s):
+            self.found.add("acknowledged what wasn't sent", s, f"ack {ack:,}, the other side ended with {fin + 1:,}", "")
+            return
         if ack > self.top and not s.has(SYN) and len(self.early) < MOST_HELD:
             self.early.append((s, ack))
         if ack < self.acked:
@@ -298,7 +311,7 @@ class Incoming:
         self.edge = edge if self.edge is None else max(self.edge, edge)
 
     def end(self):
-        if self.silent_syn:
+        if self.silent_syn and self.watch.until - self.silent_syn.at > TOO_LATE:
             self.found.add("SYN not challenged", self.silent_syn, "no answer", "acknowledged at once")
         if 2 * self.too_late > self.judged:             # the capture may lack one that was in time, and not most of them
             self.found.sure.add("acknowledged too late")
@@ -483,6 +496,7 @@ class Outgoing:
         if self.past and self.heard_at > self.past[1] and self.heard_ack <= self.past[0]:       # the client took nothing of it, so it had opened no more
             self.found.sure.add("past the window")
         offloaded = self.watch.offloaded or any(len(s.datagram) > ETHERNET_MOST for s in self.watch.life.client + self.watch.life.server)
+        self.found.offloaded = self.found.offloaded or offloaded
         for s, words in self.large:
             self.found.add("larger than a packet" if offloaded else "larger than the client takes", s, words, "")
         last = {near(s.seq, self.base): s for s in self.again}

@@ -11,7 +11,9 @@ CALL = re.compile(r"([0-3]):(\d{1,10}):(status|close|buffer=\d{1,5})", re.ASCII)
 
 
 def version():
-    """The repository's, as git tells it."""
+    """The repository's, as git tells it; that of a package, as it was built."""
+    if (TOP / "version").is_file():
+        return (TOP / "version").read_text(encoding="utf-8").strip()
     try:
         return subprocess.run(["git", "describe", "--tags", "--always", "--dirty"], cwd=TOP, capture_output=True, text=True, check=True).stdout.strip()
     except (OSError, subprocess.CalledProcessError):

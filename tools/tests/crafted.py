@@ -23,6 +23,21 @@ def segment(source, destination, seq, ack, flags, window, text, options, reserve
     return ip + tcp[:16] + struct.pack(">H", found) + tcp[18:]
 
 
+def as_ipv6(datagram):
+    """The same segment between the addresses fd00::A.B.C.D of RFC 4291, 2.5.5. A right checksum stays right, a wrong one wrong, and one left to a card so."""
+    source, destination = (b"\xfd" + bytes(11) + datagram[at:at + 4] for at in (12, 16))
+    tcp = datagram[20:]
+    if datagram[6] & 0x3f or datagram[7] or len(tcp) < 18:
+        return struct.pack(">IHBB", 6 << 28, max(len(tcp), 20), 6, 64) + source + destination + tcp[:4]         # no whole segment
+    old, new = datagram[12:20] + struct.pack(">HH", 6, len(tcp)), source + destination + struct.pack(">II", len(tcp), 6)
+    held, = struct.unpack_from(">H", tcp, 16)
+    right = checksum(old + tcp[:16] + b"\0\0" + tcp[18:])
+    for was, known in ((checksum(old) ^ 0xffff, checksum(new) ^ 0xffff), (right, checksum(new + tcp[:16] + b"\0\0" + tcp[18:]))):
+        if held == was:
+            held = known
+    return struct.pack(">IHBB", 6 << 28, len(tcp), 6, 64) + source + destination + tcp[:16] + struct.pack(">H", held) + tcp[18:]
+
+
 class Talk:
     """One connection. Numbers count from the first of each side; `wait` is in microseconds; `mark` notes the frame."""
 
@@ -67,6 +82,12 @@ class Talk:
     def close(self):
         return self.up(ACK | FIN).down(ACK | FIN).up()
 
+    def then(self, wait):
+        """The capture goes on for so long, with a datagram of others at its end."""
+        self.at += wait
+        self.records.append((self.at, segment((0x0a000003, 53), (0x0a000004, 53), 1, 1, ACK, 1, b"", b"")))
+        return self
+
     def anew(self, wait):
         """The same two ends, with other first numbers."""
         self.start = self.start[0] + 1_000_000, self.start[1] + 3_000_000
@@ -74,7 +95,7 @@ class Talk:
         self.at += wait
         return self
 
-    def save(self, folder, name="a.pcap"):
+    def save(self, folder, name="a.pcap", changed=lambda datagram: datagram):
         path = Path(folder) / name
-        write(path, self.records, 101)
+        write(path, [(at, changed(datagram)) for at, datagram in self.records], 101)
         return path

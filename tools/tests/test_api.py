@@ -115,7 +115,7 @@ pub use low::{Total, keep};
 /// Twice.
 pub fn twice(t: &Total) {}
 """
-PARTS = ("definitions.py", "items.py", "cited.py", "apipage.py", "api.css", "api.js", "definitions.js", "packets.py", "words.py")
+PARTS = ("definitions.py", "items.py", "cited.py", "apipage.py", "api.css", "api.js", "definitions.js", "packets.py", "words.py", "output.py", "capture.py", "files.py")
 
 
 class Small(unittest.TestCase):

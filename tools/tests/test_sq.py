@@ -1,5 +1,7 @@
 """sq: what it makes of a person's files is what sqrun makes of them by hand, whatever their links, packing and size; each refusal is told."""
+import csv
 import gzip
+import io
 import json
 import lzma
 import os
@@ -15,7 +17,7 @@ import unittest
 from pathlib import Path
 
 from common import TOOLS, TOP, captures, need, output
-from crafted import Talk
+from crafted import Talk, as_ipv6
 from generated import records, write
 from test_sqdiff import program
 import builds
@@ -33,8 +35,12 @@ BEFORE = {0: (b"\2\0\0\0", b"\x1e\0\0\0"), 108: (b"\0\0\0\2", b"\0\0\0\x1c"), 22
 STACKED = {"802.1ad and 802.1Q": b"\x88\xa8\0\5\x81\0\0\6\x08\0", "twice 802.1Q": b"\x81\0\0\5\x81\0\0\6\x08\0", "PPPoE": b"\x88\x64\x11\0\0\1\0\x40\0\x21"}
 
 
-def sq(*words, status=0, data=b"", said=False):
-    """What sq prints; or its lines on the error output."""
+SHAPES = {"--report", "--json", "--csv", "--page", "--pcap", "--check"}
+
+
+def sq(*words, status=0, data=b"", said=False, lines=False):
+    """What sq prints, by default a report; or its lines on the error output."""
+    words = words if lines or SHAPES & set(words) else ("--report", *words)
     done = subprocess.run([TOOLS / "sq", "--sqrun", program(), *map(str, words)], input=data, capture_output=True)
     assert done.returncode == status, (words, done.returncode, done.stderr.decode())
     return done.stderr.decode() if said or status else done.stdout
@@ -326,6 +332,80 @@ class Told(Folder):
         self.assertFalse(slow.exists() and slow.read_bytes())
 
 
+class Lines(Folder):
+    """What sq prints without a word: a line for each TCP connection, and a total."""
+
+    def shown(self, *paths, terminal=False, **more):
+        if not terminal:
+            return sq(*paths, lines=True, **more).decode().splitlines()
+        words = " ".join(map(str, (TOOLS / "sq", "--quiet", "--sqrun", f"'{program()}'", *paths)))
+        return subprocess.run(["script", "-qec", words, "/dev/null"], capture_output=True, text=True, env={**os.environ, "TERM": "xterm"}).stdout.splitlines()
+
+    def test_each_connection_and_a_total(self):
+        """Texts both ways, what went again, and how it ended: of a story whose numbers are known."""
+        talk = Talk().open().echo(b"hello").up(0x18, b"again").down(0x18, b"again").down(0x18, b"again", seq=6, wait=1_000_000).up().up(
+            0x18, b"last").up(0x18, b"last", seq=11, wait=300_000).down(0x14)
+        first, second, last = self.shown(talk.save(self.folder))
+        self.assertEqual(first.split(), "client server bytes up down time again up down end sqrun".split())
+        self.assertEqual(second.split()[:9], ["10.0.0.1:4000", "10.0.0.2:7", "18", "15", "1.301", "s", "1", "1", "reset"])
+        self.assertIn("echo: ", second)
+        self.assertTrue(last.startswith("1 connection: 1 reset; 18 bytes up, 15 down; again 1 up, 1 down; sqrun serves 1"), last)
+
+    def test_closed_and_open(self):
+        self.assertEqual(self.shown(Talk().open().echo().close().save(self.folder))[1].split()[8], "closed")
+        self.assertEqual(self.shown(Talk().open().echo().up(0x11).down().save(self.folder))[1].split()[8], "open")
+
+    def test_what_is_not_served_is_listed(self):
+        """Any port, and IPv6 beside IPv4."""
+        talk = Talk(8_080).open().echo().close()
+        six = [(at, as_ipv6(body)) for at, body in Talk(443).open().echo(b"x" * 100).close().records]
+        write(self.folder / "a.pcap", sorted(talk.records + six), 101)
+        _, one, other, total = self.shown(self.folder / "a.pcap")
+        self.assertEqual([line.split()[:4] for line in sorted((one, other))],
+                         [["10.0.0.1:4000", "10.0.0.2:8080", "5", "5"], ["[fd00::a00:1]:4000", "[fd00::a00:2]:443", "100", "100"]])
+        self.assertTrue(total.startswith("2 connections: 2 closed; 105 bytes up, 105 down"))
+        self.assertTrue(total.endswith("sqrun serves 0"))
+
+    def test_tshark_counts_the_same(self):
+        """Bytes both ways of each connection of real captures, as tshark's own statistics have them."""
+        need("tshark")
+        for path in captures():
+            with self.subTest(path.name):
+                rows = [line.split("\t") for line in output(["tshark", "-r", path, "-Y", "tcp", "-T", "fields", "-E", "occurrence=f", "-e", "tcp.stream", "-e", "tcp.dstport", "-e", "tcp.len"]).decode().splitlines()]
+                wanted = {}
+                for stream, port, length in rows:
+                    both = wanted.setdefault(stream, [0, 0])
+                    both[port not in ("7", "9")] += int(length)
+                shown = [[int(line.split()[at].replace(",", "")) for at in (2, 3)] for line in self.shown(path)[1:-1]]
+                self.assertEqual(sorted(shown), sorted(wanted.values()))
+
+    def test_a_terminal_gets_ten_lines(self):
+        """Coloured, those first that one should look at; and no colour where a program reads."""
+        records = []
+        for n in range(40):
+            talk = Talk().open().echo()
+            talk = talk.down(0x14) if n == 30 else talk.close()
+            records += [(at + n, body[:20] + (5_000 + n).to_bytes(2, "big") + body[22:] if body[22:24] == b"\0\7" else body[:22] + (5_000 + n).to_bytes(2, "big") + body[24:])
+                        for at, body in talk.records]
+        write(self.folder / "a.pcap", sorted(records), 101)
+        shown = self.shown(self.folder / "a.pcap", terminal=True)
+        self.assertLessEqual(len(shown), 9)
+        self.assertIn("10.0.0.1:5030", shown[1])
+        self.assertIn("\x1b[31mreset", shown[1])
+        self.assertIn("and 34 more", shown[-2])
+        plain = self.shown(self.folder / "a.pcap")
+        self.assertEqual((len(plain), "\x1b" in "".join(plain)), (42, False))
+
+    def test_csv_has_the_fields_of_json(self):
+        whole = [json.loads(line) for line in sq("--json", EXAMPLE).splitlines()]
+        rows = list(csv.DictReader(io.StringIO(sq("--csv", EXAMPLE).decode())))
+        self.assertEqual([list(row) for row in rows], [list(line) for line in whole])
+        self.assertEqual([{**row, "answers": row["answers"] or "[]"} for row in rows], [{name: str(value) for name, value in line.items()} for line in whole])
+
+    def test_a_port_that_is_not_there(self):
+        self.assertIn("no segment to or from port 1234", sq("--port", "1234=9", EXAMPLE, said=True))
+
+
 class Shapes(Folder):
     def test_page_and_capture_are_those_of_the_tools(self):
         report = self.folder / "a.report"
@@ -350,8 +430,8 @@ class Shapes(Folder):
         done = subprocess.run([TOOLS / "sq", "--sqrun", program(), "--page", "mine.pcap"], cwd=self.folder, stdout=end, stderr=subprocess.PIPE)
         os.close(end), os.close(main)
         self.assertEqual(done.returncode, 0, done.stderr)
-        self.assertTrue((self.folder / "mine.pcap.sqrun.html").exists())
-        self.assertIn(b"mine.pcap.sqrun.html", done.stderr)
+        self.assertTrue((self.folder / "mine.sqrun.html").exists())
+        self.assertIn(b"mine.sqrun.html", done.stderr)
 
     def test_help_and_manual(self):
         for tool in ("sq", "sqdiff"):

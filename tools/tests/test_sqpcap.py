@@ -7,7 +7,8 @@ import tempfile
 import unittest
 from pathlib import Path
 
-from common import TOOLS, captures, need, output, sqrun
+from common import TOOLS, TOP, captures, need, output, sqrun
+from crafted import Talk
 import capture
 import report as reports
 from capture import RST, SYN
@@ -125,6 +126,35 @@ class Joined(unittest.TestCase):
                 (self.folder / "a.pcap").write_bytes(self.joined(path, text))
                 self.assertEqual([t.rstrip("0") for t in times(other)], [t.rstrip("0") for t in times(self.folder / "a.pcap")])
 
+    def test_both_servers(self):
+        """The captured conversation as it was, and the same client with the reference at another address: two streams each, all sums right, as tshark sees them."""
+        need("tshark")
+        path = TOP / "examples" / "echo_short.pcap"
+        text, other = sqrun(path), self.folder / "both.pcapng"
+        other.write_bytes(self.joined(path, text, "--beside"))
+        names = ("frame.interface_name", "ip.src", "tcp.srcport", "ip.dst", "tcp.dstport", "tcp.seq_raw", "tcp.ack_raw", "tcp.len", "tcp.checksum.status", "ip.checksum.status")
+        shown = lambda file, *words: [line.split("\t") for line in output(["tshark", "-r", file, "-o", "tcp.check_checksum:TRUE", "-o", "ip.check_checksum:TRUE", *words, "-T", "fields", *(
+            word for name in names for word in ("-e", name))]).decode().splitlines()]
+        rows, captured = shown(other), shown(path, "-Y", "tcp.port in {7, 9}")
+        self.assertEqual({row[8:][n] for row in rows for n in (0, 1)}, {"1"})
+        self.assertEqual(sorted(row[1:] for row in rows if row[0] == "captured"), sorted(row[1:] for row in captured))
+        beside, alone = [row[1:] for row in rows if row[0] == "reference"], self.folder / "alone.pcap"
+        alone.write_bytes(self.joined(path, text))
+        server = captured[0][3]
+        self.assertEqual(sorted([server if end == "198.18.0.1" else end for end in row] for row in beside), sorted(row[1:] for row in shown(alone)))
+        self.assertTrue(all("198.18.0.1" in (row[0], row[2]) for row in beside))
+        self.assertIn(f"sqrun-for-{server}".encode(), other.read_bytes())
+
+    def test_wrong_sums_stay_wrong_beside(self):
+        """A client's checksum that is wrong is wrong in both conversations."""
+        need("tshark")
+        talk = Talk().open().up(0x18, b"hello", wrong=True).down(0x18, b"hello").up().close()
+        path = talk.save(self.folder)
+        other = self.folder / "both.pcapng"
+        other.write_bytes(self.joined(path, sqrun(path), "--beside"))
+        wrong = output(["tshark", "-r", other, "-o", "tcp.check_checksum:TRUE", "-Y", "tcp.checksum.status == 0", "-T", "fields", "-e", "frame.interface_name", "-e", "tcp.len"]).decode()
+        self.assertEqual(wrong.splitlines(), ["captured\t5", "reference\t5"])
+
     def test_right_sums_on_a_word(self):
         """Of an offloading client: tshark finds wrong sums without the word, and none with it; nothing else is changed."""
         need("tshark")
@@ -165,10 +195,10 @@ class Joined(unittest.TestCase):
         path = captures()[0]
         (self.folder / "a.report").write_bytes(sqrun(path))
         words = [TOOLS / "sqpcap", "--capture", path, self.folder / "a.report"]
-        self.assertEqual(output([*words, "-o", "/dev/full"], status=1), b"sqpcap: No space left on device: /dev/full\n")
+        self.assertEqual(output([*words, "-o", "/dev/full"], status=5), b"sqpcap: '/dev/full': No space left on device\n")
         with open("/dev/full", "wb") as full:
             done = subprocess.run(words, stdout=full, stderr=subprocess.PIPE)
-        self.assertEqual((done.returncode, done.stderr), (1, b"sqpcap: No space left on device: standard output\n"))
+        self.assertEqual((done.returncode, done.stderr), (5, b"sqpcap: standard output: No space left on device\n"))
 
     def test_a_capture_through_a_pipe(self):
         path = captures()[0]

@@ -233,8 +233,12 @@ class Graphs(unittest.TestCase):
             digits = colour if len(colour) == 6 else "".join(2 * c for c in colour)
             parts = [int(digits[i:i + 2], 16) / 255 for i in (0, 2, 4)]
             return sum(w * (c / 12.92 if c <= .04045 else ((c + .055) / 1.055) ** 2.4) for w, c in zip((.2126, .7152, .0722), parts))
+        shown = float(re.search(r"\.fig \.real\{[^}]*opacity:([.\d]+)", timeseq.PLOT_STYLE)[1])
         for theme in drawing.STYLE.split("@media"):
             colours = dict(re.findall(r"--(\w+):#(\w+)", theme))
+            paper, real = ([int(colours[name] * (1 if len(colours[name]) == 6 else 2), 16) for name in ("paper", "real")])
+            mixed = lambda shift: round(shown * (real >> shift & 255) + (1 - shown) * (paper >> shift & 255))
+            colours["real"] = f"{mixed(16):02x}{mixed(8):02x}{mixed(0):02x}"        # as it lies on the paper
             for name, least in (("ink", 4.5), ("muted", 4.5), ("again", 4.5), ("thread", 4.5), ("data", 3), ("ackd", 3), ("room", 3), ("real", 3), ("ring", 4.5),
                                 ("worker", 4.5), ("move", 3)):
                 a, b = sorted((light(colours[name]), light(colours["paper"])))
