@@ -274,6 +274,8 @@ def nothing_served(run):
         return (f"nothing whole to port 7 or 9: {drawing.plural(run.counts['cut'], 'packet')} {'is' if run.counts['cut'] == 1 else 'are'} cut short. "
                 "Capture again with whole packets: `tcpdump -s 0`")
     busiest = seen.tcp.most_common(1)
+    if run.counts["server"] and busiest and busiest[0][0] in SERVICES:
+        return f"nothing to port 7 or 9: the capture has only what their servers sent. Capture both directions: `tcpdump port {busiest[0][0]}`"
     advice = f"--port {busiest[0][0]}=9 serves the first as discard, ={7} as echo" if busiest else "sqrun serves TCP over IPv4"
     mistaken = "; UDP to port 7 or 9 is sqmore's" if {7, 9, 19} & set(seen.udp) else ""
     return f"nothing to port 7 or 9: the capture has {seen.words()}. {advice}{mistaken}"

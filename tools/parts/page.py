@@ -29,6 +29,8 @@ TIMELINE_COARSE = "Drag to pan, two fingers zoom; the strip above shows where yo
 SHARES = "Where too many marks are in view, a bar's height is the share of the width in which a pass had the squeue; full height is all of it."
 NO_CLOCK = "Marks stand in the order of their squeue; between squeues what happened before stands to the left. There is no clock."
 NOT_PROVED = "Drawn by sqplot from what the report says. Nothing on this page is proved"
+NOTHING = ("Nothing of it is served: sqrun takes what goes to the TCP ports 7 and 9 over IPv4. <code>tools/sq FILE</code> lists all TCP connections of a capture, and "
+           "<code>tools/sqdiff FILE</code> judges them by their segments.")
 NOT_JUDGED = ", and whether the marks may stand so isn't judged here"
 COUNTED = (("server", "from the server"), ("other", "other"), ("fragment", "fragments"), ("cut", "cut"), ("malformed", "malformed"),
            ("badsum", "with a wrong checksum"), ("nofit", "beyond 4,096 connections"))
@@ -189,6 +191,8 @@ def page(title, report, whole, drawn, chosen_squeues, marks, left_out, interests
     if whole.conns:
         out.append(f'<h2 id="connections">Connections</h2>{table(whole, report, drawn, interests)}'
                    + f'<p class="quiet help"><span class="fine">{HINT}</span><span class="coarse">{HINT_COARSE}</span></p>' * bool(drawn))
+    if not whole.conns:
+        out.append(f"<p>{NOTHING}</p>")
     if left_out:
         out.append(f"<p>{left_out}</p>")
     out.append("</div>")

@@ -402,6 +402,15 @@ class Lines(Folder):
         self.assertEqual([list(row) for row in rows], [list(line) for line in whole])
         self.assertEqual([{**row, "answers": row["answers"] or "[]"} for row in rows], [{name: str(value) for name, value in line.items()} for line in whole])
 
+    def test_a_server_alone(self):
+        """What is missing is the clients' direction, and no port."""
+        write(self.folder / "a.pcap", [(at, body) for at, body in Talk().open().echo().records if body[20:22] == b"\0\7"], 101)
+        self.assertIn("only what their servers sent", sq(self.folder / "a.pcap", said=True))
+
+    def test_a_page_of_nothing_says_why(self):
+        write(self.folder / "a.pcap", [(at, as_ipv6(body)) for at, body in Talk().open().echo().records], 101)
+        self.assertIn(b"Nothing of it is served", sq("--page", self.folder / "a.pcap"))
+
     def test_a_port_that_is_not_there(self):
         self.assertIn("no segment to or from port 1234", sq("--port", "1234=9", EXAMPLE, said=True))
 
