@@ -7,7 +7,7 @@ import tempfile
 import unittest
 from pathlib import Path
 
-from common import TOP
+from common import TOP, need
 
 LOGIC = "dac8208d650f15bf"
 RT = """#!/usr/bin/python3
@@ -17,7 +17,7 @@ if sys.argv[1] == "version":
     sys.exit(print(os.environ["SAYS"]))
 here, top = Path.cwd(), Path.cwd().parents[1]
 lines = (line.partition(":") for line in (top / "crates.txt").read_text().splitlines())
-below = {name: stands_on.split() for name, _, stands_on in lines}
+below = {name.split()[0]: stands_on.split() for name, _, stands_on in lines}
 def prove(name):
     for other in below[name]:
         prove(other)
@@ -29,6 +29,9 @@ def prove(name):
             told.write(name + "\\n")
 for name in [here.name] if sys.argv[1] == "lib" else below[here.name]:
     prove(name)
+if sys.argv[1] == "lib" and (here / "made.a").exists():
+    (here / "out").mkdir(exist_ok=True)
+    (here / "out" / f"lib{here.name}.a").write_bytes((here / "made.a").read_bytes())
 if sys.argv[1] == "run":
     (here / "out").mkdir(exist_ok=True)
     (here / "out" / here.name).write_text("a program")
@@ -77,6 +80,31 @@ class Built(unittest.TestCase):
 
     def test_no_such_program(self):
         self.assertEqual(self.build("sqwalk").returncode, 2)
+
+    def archive(self, end, source):
+        """An archive of one object of C."""
+        with tempfile.TemporaryDirectory() as folder:
+            (Path(folder) / "a.c").write_text(source)
+            subprocess.run(["cc", "-fPIC", "-c", "a.c", "-o", f"{end.stem}.o"], cwd=folder, check=True)
+            end.parent.mkdir(parents=True, exist_ok=True)
+            subprocess.run(["ar", "rcs", end, f"{end.stem}.o"], cwd=folder, check=True)
+
+    def test_a_library_of_c(self):
+        """Its crates are proved; the kit's object comes in, and only the crate's names are global."""
+        for program in ("cc", "ar", "ld", "objcopy", "nm"):
+            need(program)
+        shutil.copytree(TOP / "tools" / "parts", self.top / "tools" / "parts", ignore=shutil.ignore_patterns("__pycache__"))
+        with open(self.top / "crates.txt", "a") as lines:
+            lines.write("sqtcp_c staticlib: left\n")
+        self.archive(self.top / "crates" / "sqtcp_c" / "made.a", "void *kit_alloc(unsigned long n);\nvoid *sqtcp_made(void) { return kit_alloc(8); }\n")
+        self.archive(self.top.parent / "c" / "liblibc_c.a", "void *malloc(unsigned long n);\nvoid *kit_alloc(unsigned long n) { return malloc(n); }\n")
+        done = self.build("libsqtcp")
+        self.assertEqual(done.returncode, 0, done.stderr)
+        self.assertEqual(sorted(self.proved.read_text().split()), ["left", "low", "sqtcp_c"])
+        for words, name in (("-g", "libsqtcp.a"), ("-D", "libsqtcp.so")):
+            said = subprocess.run(["nm", words, "--defined-only", self.top / name], capture_output=True, text=True, check=True).stdout
+            self.assertEqual([line.split()[2] for line in said.splitlines() if len(line.split()) == 3], ["sqtcp_made"])
+        self.assertEqual(sorted(path.name for path in self.top.iterdir() if path.name.startswith("lib")), ["libsqtcp.a", "libsqtcp.so"])
 
 
 if __name__ == "__main__":

@@ -10,7 +10,7 @@ import definitions
 
 PAGES = sorted([*TOP.glob("*.md"), *TOP.glob("docs/*.md"), *TOP.glob("bench/*/README.md"), *TOP.glob("examples/*.md")])
 
-MOST_WORDS, MOST_OF_README = 42_000, 1_500
+MOST_WORDS, MOST_OF_README = 42_000, 1_400
 
 
 def text_of(page):
