@@ -20,10 +20,11 @@ impl Counted {
     }
 }
 
-/// So many rings.
+/// So many rings, and the calls that there may be: ring, thread and number.
 #[derive(Drop)]
 pub struct Counting {
     pub count: u32,
+    pub calls: Vec<(u32, u32, u32)>,
 }
 
 impl Parts for Counting {

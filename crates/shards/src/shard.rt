@@ -48,7 +48,14 @@ impl<X: Shared + Drop, H: Wait + Drop> Shard<X, H> {
         ensures first { IfOk result (λ r. first_ends r ≡ ends) }
     {
         let count = ends.len() as u32;
-        let numbers = Places::make(alloc, Counting { count }, count)?;
+        let numbers = Places::make(
+            alloc,
+            Counting {
+                count,
+                calls: Vec::new(alloc),
+            },
+            count,
+        )?;
         let first = Known::of(&ends);
         Ok(Shard {
             numbers,
