@@ -15,7 +15,7 @@ NOT_PROVED = ("Nothing on this page is proved: the proof speaks of sqrun's answe
               "A capture with gaps, or taken far from the server, can mislead it.")
 WIDTH, LEFT, MIDDLE, RIGHT, ROW, HEAD = 1180, 110, 600, 1090, 31, 66
 MOST, FIRST, LAST = 90, 60, 25
-MOST_OTHERS = 200
+MOST_LISTED, MOST_OTHERS = 1_000, 200        # connections with tables
 STATES = {"LISTEN": "closed", "": "unknown"}        # of the captured server
 HEADS = '<tr><th>verdict<th>kind<th>captured<th>sqrun<th class="n">times<th>frames<th>section'
 STYLE = """
@@ -151,16 +151,15 @@ def page(title, outcome, compared, others, summary, drawn, notes):
             "<meta http-equiv=\"Content-Security-Policy\" content=\"default-src 'none'; style-src 'unsafe-inline'\">"
             "<meta name=\"viewport\" content=\"width=device-width\">"
             f"<title>{escape(title)}</title><style>{(HERE / 'page.css').read_text()}{drawing.STYLE}{ladder.STYLE}{STYLE}{PAGE_STYLE}</style></head><body>")
+    shown = [n for n, c in enumerate(compared) if n in drawn or any(map(is_its_own, c.differences))][:MOST_LISTED]
+    there = {f"conn{compared[n].number}life{compared[n].life}" for n in shown} | {place(one) for one in others[:MOST_OTHERS]}
     lines = "".join(f'<tr><td class="verdict {s.verdict}">{s.verdict}<td>{escape(s.kind.name)}<td class="n">{s.connections:,}<td class="n">{s.times:,}'
-                    f'<td class="short">{links_of(s.first)}<td class="section">{escape(s.kind.section)}<td class="rule">{escape(s.kind.rule)}' for s in summary)
+                    f'<td class="short">{links_of(s.first, there)}<td class="section">{escape(s.kind.section)}<td class="rule">{escape(s.kind.rule)}' for s in summary)
     out = [head, f"<main><h1>{escape(title)}</h1>", f'<p>{escape("; ".join([outcome, *notes]))}.</p>', f'<p class="quiet">{NOT_PROVED}</p>']
     if summary:
         out.append('<div class="rows"><table><tr><th>verdict<th>kind<th class="n">connections<th class="n">times<th>first in<th>section<th>what it says'
                    f'{lines}</table></div>')
-    shown = [n for n, c in enumerate(compared) if c.differences or n in drawn]
-    left = len(shown) - len(drawn)
-    if left:
-        out.append(f'<p class="quiet">Drawn are the {len(drawn):,} that differ most; {left:,} are listed without a diagram. --conn names others.</p>')
+    out += [f'<p class="quiet">{words}</p>' for words in left_out(compared, shown, drawn)]
     out += [one(compared[n], n in drawn) for n in shown]
     out += [by_segments(one) for one in others[:MOST_OTHERS]]
     if len(others) > MOST_OTHERS:
@@ -168,9 +167,23 @@ def page(title, outcome, compared, others, summary, drawn, notes):
     return "".join(out) + "</main></body></html>\n"
 
 
+def is_its_own(difference):
+    """Whether it says something of this connection: neither what the standards leave free, nor what is so of a whole host."""
+    return difference.verdict != "choice" and difference.kind != "checksums of the card"
+
+
+def left_out(compared, shown, drawn):
+    """What isn't on the page, in words."""
+    listed, rest = len(shown) - len(drawn), sum(bool(c.differences) for c in compared) - len(shown)
+    if listed > 0:
+        yield f"Drawn are the {len(drawn):,} that differ most; {listed:,} are listed without a diagram. --conn names others."
+    if rest > 0:
+        yield f"{rest:,} more aren't listed: they differ in what the standards leave free, or come behind {MOST_LISTED:,} others."
+
+
 def place(one):
     """Where a page has what is told of one side of a life."""
-    return f"conn{one.number}life{one.life}" if one.side == "server" and one.number is not None else f"{one.side}{one.ends}life{one.life}".replace(" ", "-")
+    return f"conn{one.number}life{one.life}" if not one.alone else f"{one.side}{one.ends}life{one.life}".replace(" ", "-")
 
 
 def by_segments(one):
@@ -179,5 +192,7 @@ def by_segments(one):
             f'<div class="rows"><table>{HEADS}{difference_rows(one)}</table></div></section>')
 
 
-def links_of(first):
-    return ", ".join(f'<a href="#{escape(place(one))}">{one.number if one.number is not None else escape(one.ends.split(" ")[one.side == "server"])}</a>' for one, _ in first)
+def links_of(first, there):
+    """The first lives that have a kind, with links to those that are on the page."""
+    named = [(place(one), str(one.number) if one.number is not None else one.ends.split(" ")[one.side == "server"]) for one, _ in first]
+    return ", ".join(f'<a href="#{escape(to)}">{escape(name)}</a>' if to in there else escape(name) for to, name in named)

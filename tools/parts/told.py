@@ -27,6 +27,7 @@ class One:
     begun: int                  # microseconds
     parted: object = None       # parting.Parting
     service: str = ""
+    alone: bool = False         # judged by its segments, without the reference
 
     def name(self):
         told = [f"connection {self.number}"] * (self.number is not None) + [f"life {self.life + 1}"] * (self.life > 0) + [self.service] * bool(self.service)

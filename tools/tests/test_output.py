@@ -1,9 +1,12 @@
 """Where the tools write: never over what they read, by whatever name; whole or not at all; and a fault is one sentence with the file's name."""
 import os
+import re
 import shutil
+import signal
 import stat
 import subprocess
 import tempfile
+import time
 import unittest
 from pathlib import Path
 
@@ -12,6 +15,12 @@ from test_sqdiff import program
 
 EXAMPLE = TOP / "examples" / "echo_short.pcap"
 WRITING = 5
+
+
+def catches(process, number):
+    """Whether a process has a handler for the signal: then it's at its work."""
+    told = Path(f"/proc/{process}/status").read_text()
+    return int(re.search(r"SigCgt:\s+(\w+)", told)[1], 16) >> number - 1 & 1
 
 
 class Output(unittest.TestCase):
@@ -151,9 +160,10 @@ class Output(unittest.TestCase):
                     done = subprocess.Popen(list(map(str, words)), stdin=subprocess.PIPE, env={**os.environ, "TMPDIR": temporary})
                     done.stdin.write(self.capture.read_bytes()[:100] if tool[-1] == "-" and tool[0] in ("sq", "sqdiff") else b"report 1\n")
                     done.stdin.flush()
-                    subprocess.run(["sleep", "1"])
-                    subprocess.run(["kill", f"-{ends}", str(done.pid)])
-                    self.assertEqual(done.wait(20), status)
+                    while not catches(done.pid, signal.SIGTERM):
+                        time.sleep(0.05)
+                    done.send_signal(getattr(signal, f"SIG{ends}"))
+                    self.assertEqual(done.wait(60), status)
                     done.stdin.close()
                     self.assertEqual((os.listdir(temporary), self.names()), ([], names))
 

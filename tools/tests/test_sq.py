@@ -211,8 +211,8 @@ class Told(Folder):
         self.assertEqual([line["connection"] for line in lines], [0, 1, 2, 3])
         first = lines[0]
         wanted = {"client": "10.66.0.1:34574", "server": "10.66.0.2:7", "service": "echo", "captured_port": 7, "first_frame": 3, "last_frame": 12,
-                  "client_segments": 6, "client_bytes": 6, "server_segments": 4, "server_bytes": 6, "replies": 3, "reply_bytes": 6, "replies_again": 0,
-                  "lives": 1, "answers": [], "end": "LISTEN"}
+                  "client_segments": 6, "client_bytes": 6, "server_segments": 4, "server_bytes": 6, "server_again": 0, "replies": 3, "reply_bytes": 6, "replies_again": 0,
+                  "lives": 1, "answers": [], "captured_end": "closed", "end": "LISTEN"}
         self.assertEqual({key: first[key] for key in wanted}, wanted)
         rows = (TOP / "docs" / "TOOLS.md").read_text().split("| Field |")[1].split("\n\n")[0].split("\n")
         documented = {name for row in rows for name in re.findall(r"`(\w+)`", row.split(" | ")[0])}

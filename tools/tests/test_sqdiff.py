@@ -751,6 +751,12 @@ class Shapes(unittest.TestCase):
         self.assertLess(len(text.splitlines()), 100)
         self.assertIn("97 more", text)
         self.assertEqual(text.count("reserved bits: frame"), 1)
+        page = self.said("--page", self.folder / "many.pcap")
+        self.assertEqual(page.count("<section"), 100)
+        self.assertIn("900 more aren't listed", page)
+        seen = Elements()
+        seen.feed(page)
+        self.assertLessEqual({link[1:] for link in seen.links}, seen.names)
 
     def test_csv_has_the_fields_of_json(self):
         found = [json.loads(line) for line in self.said("--json", self.path).splitlines()][:-1]
