@@ -5,7 +5,8 @@
         for answer in server.datagram(now, datagram):
             send(answer)
 
-Datagrams are bytes, each an IPv4 datagram. Times are microseconds since any moment that stays. A server is for one thread.
+Datagrams are bytes, each an IPv4 datagram. Times are microseconds since any moment that stays. A server is for one thread, and keeps its memory
+until it is closed.
 docs/C.md tells what is proved of it. The library is libsqtcp.so at the top of the checkout, or where SQTCP_LIBRARY says.
 """
 import ctypes
@@ -102,6 +103,7 @@ class Server:
         """A datagram comes: what is sent then, a list of datagrams."""
         if not 0 <= now <= LAST_TIME:
             raise Refused(f"no time: {now}")
+        body = bytes(body)
         self.say(self.library.sqtcp_datagram(self.here(), now, body, len(body)))
         return self.sent()
 

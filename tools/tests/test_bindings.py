@@ -8,6 +8,7 @@ import shutil
 import subprocess
 import sys
 import tempfile
+import threading
 import unittest
 from pathlib import Path
 
@@ -200,13 +201,28 @@ class Session(unittest.TestCase):
             self.assertEqual(say(5, 107, answer.seq + 7, ACK), [])
             self.assertEqual(server.connections(), 0)
 
+    def test_another_thread_is_told(self):
+        server, told = self.sqtcp.Server(address="10.9.0.2", broadcast="10.9.0.255"), []
+
+        def ticks():
+            try:
+                server.tick(1)
+            except RuntimeError as fault:
+                told.append(str(fault))
+
+        other = threading.Thread(target=ticks)
+        other.start()
+        other.join()
+        self.assertEqual(told, ["a server is for the thread that opened it"])
+        server.close()
+
     def test_what_is_out_of_range(self):
         server = self.sqtcp.Server(address="10.9.0.2", broadcast="10.9.0.255")
         for now in (-1, 2**62 + 1, 2**64):
             self.assertRaises(self.sqtcp.Refused, server.tick, now)
             self.assertRaises(self.sqtcp.Refused, server.datagram, now, b"")
         self.assertRaises(self.sqtcp.Refused, server.datagram, 1, bytes(65_536))
-        self.assertEqual(server.datagram(1, bytes(65_535)), [])
+        self.assertEqual(server.datagram(1, bytearray(65_535)), [])
         for words in ({"echo": 65_536}, {"places": -1}, {"held": 2**64}, {"segment": 70_000}, {"secret": b"short"}):
             self.assertRaises(ValueError, self.sqtcp.Server, address="10.9.0.2", broadcast="10.9.0.255", **words)
         server.close()
