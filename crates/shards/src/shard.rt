@@ -14,6 +14,19 @@ use std::sync::Wait;
 
 /// What the rings of a squeue share, and of each ring its lane's ends at this squeue. Connection p is ring p: a feed of it takes the
 /// next parcel of its lane. A ring has at most 2^32 - 1 feeds between two renewals of its part.
+///
+/// # Example
+///
+/// ```
+/// shard.feed(alloc, 0, 0);
+/// shard.feed(alloc, 1, 0);
+/// assert_eq!(rt; shard.shared().bytes(), b"abXY".as_slice());
+/// ...
+/// let _number = shard.take_out(0);
+/// ...
+/// shard.put_in(0, Counted::none());
+/// shard.feed(alloc, 0, 0);
+/// ```
 #[derive(Drop)]
 pub struct Shard<X: Shared + Drop, H: Wait + Drop> {
     numbers: Places<Counting>,
