@@ -19,6 +19,10 @@ impl<X: KeyAnswers + Drop> Shared for Keyed<X> {
 
     type Parcel = Batch<X::Item, X::Answer>;
 
+    type Origin = X;
+
+    ghost origin = { λ s. s.steps };
+
     ghost is_made = { IsKeyed X.begins X.step };
 
     fn take(&mut self, alloc: Global, _ring: u32, batch: &mut Batch<X::Item, X::Answer>) {

@@ -1,34 +1,42 @@
 //! The lanes of one ring.
+ghost use Rattle.std.specs.Prelude.{◌≡◌, ◌+◌, ◌<◌, ◌≤◌, ◌^◌, ◌++◌, ◌∷◌, [], IfNone, IfSome, Some, length, slice_get};
+ghost use Rattle.shards.specs.Sharing.{limits_for};
+ghost use Rattle.shard_rings.specs.Knowing.{IsBeside, SameEnd, came_of, sent_of};
+ghost use Rattle.shard_rings.specs.Rows.{AreKnown, IsKnown, SameEnds};
+
 use crate::cell::{Cell, Way, pop_back, send, wait_back};
 use crate::lanes::Lanes;
 use crate::pool::ShardPool;
+use perimeter_core::Known;
 use shards::{Shard, Shared};
 use squeue_serve::{put_pass, take_pass};
 use squeue_state::{Pass, Squeue};
 use std::alloc::Global;
 use std::sync::Wait;
 
-// So many parcels a lane may send.
+/// So many parcels a lane may send.
 pub(crate) const LIFE: u64 = 1 << 50;
 
-/// A ring's lanes while it brings: how it reaches the squeues, what it has of each, and its passes, by the squeues' numbers.
+/// A ring's lanes while it brings: how it reaches the squeues, what it has of each, the same as it was first, for contracts alone, and its
+/// passes, by the squeues' numbers.
 pub(crate) struct RingLanes<'q, X: Shared + Drop, H: Wait + Drop, W: Wait> {
     pub(crate) rt: &'q W,
     pub(crate) squeues: &'q [Squeue<Shard<X, H>>],
     pub(crate) pool: ShardPool,
     pub(crate) ring: u32,
     pub(crate) cells: Vec<Cell<X::Parcel>>,
+    pub(crate) first: Known<Vec<Cell<X::Parcel>>>,
     pub(crate) places: Vec<Option<Pass>>,
+    ghost spends: { 1 ≤ pool.budget },
+    ghost spans: { (1 ≤ pool.span) × (pool.span ≤ 2 ^ 31) },
 }
 
-
-impl<X: Shared + Drop, H: Wait + Drop, W: Wait> Lanes for RingLanes<'_, X, H, W> {
+impl<'q, X: Shared + Drop, H: Wait + Drop, W: Wait> Lanes for RingLanes<'q, X, H, W> {
     ghost use Rattle.std.specs.Prelude.{map};
-    ghost use Rattle.shard_rings.specs.Knowing.{came_of, sent_of};
 
     type Parcel = X::Parcel;
 
-    type Origin = ();
+    type Origin = (u32, Vec<Cell<X::Parcel>>, &'q [Squeue<Shard<X, H>>]);
 
     ghost sent = { λ l. map sent_of l.cells.items };
 
@@ -36,9 +44,9 @@ impl<X: Shared + Drop, H: Wait + Drop, W: Wait> Lanes for RingLanes<'_, X, H, W>
 
     ghost room = { λ l. l.pool.parcels };
 
-    ghost origin = { λ l. tt };
+    ghost origin = { λ l. (l.ring, l.first.value, l.squeues) };
 
-    ghost ready = { λ l. Unit {0} };
+    ghost ready = { λ l. AreKnown limits_for l.ring l.squeues.now l.places.items l.cells.items × SameEnds l.first.value.items l.cells.items };
 
     fn squeues(&self) -> usize {
         self.cells.len()
@@ -53,7 +61,6 @@ impl<X: Shared + Drop, H: Wait + Drop, W: Wait> Lanes for RingLanes<'_, X, H, W>
     }
 
     fn send(&mut self, alloc: Global, q: usize, parcel: X::Parcel) {
-        let pass = take_pass(&mut self.places[q]);
         let way = Way {
             rt: self.rt,
             squeue: &self.squeues[q],
@@ -62,8 +69,7 @@ impl<X: Shared + Drop, H: Wait + Drop, W: Wait> Lanes for RingLanes<'_, X, H, W>
             budget: self.pool.budget,
             span: self.pool.span,
         };
-        let pass = send(&way, alloc, pass, &mut self.cells[q], parcel);
-        put_pass(&mut self.places[q], pass);
+        send_in(&way, alloc, &mut self.places[q], &mut self.cells[q], parcel);
     }
 
     fn try_back(&mut self, q: usize) -> Option<X::Parcel> {
@@ -71,7 +77,6 @@ impl<X: Shared + Drop, H: Wait + Drop, W: Wait> Lanes for RingLanes<'_, X, H, W>
     }
 
     fn back(&mut self, alloc: Global, q: usize) -> X::Parcel {
-        let pass = take_pass(&mut self.places[q]);
         let way = Way {
             rt: self.rt,
             squeue: &self.squeues[q],
@@ -80,8 +85,45 @@ impl<X: Shared + Drop, H: Wait + Drop, W: Wait> Lanes for RingLanes<'_, X, H, W>
             budget: self.pool.budget,
             span: self.pool.span,
         };
-        let (pass, parcel) = wait_back(&way, alloc, pass, &mut self.cells[q]);
-        put_pass(&mut self.places[q], pass);
-        parcel
+        back_in(&way, alloc, &mut self.places[q], &mut self.cells[q])
     }
+}
+
+// Sends a parcel by the pass in this place.
+fn send_in<X: Shared + Drop, H: Wait + Drop, W: Wait>(
+    way: &Way<'_, Shard<X, H>, W>,
+    alloc: Global,
+    place: &mut Option<Pass>,
+    cell: &mut Cell<X::Parcel>,
+    parcel: X::Parcel,
+)
+    requires known { IsKnown limits_for way.now.ring way.now.squeue.now place.old cell.old }
+    requires life { length (sent_of cell.old) < 2 ^ 50 }
+    ensures known { IsKnown limits_for way.now.ring way.now.squeue.now place.new cell.new }
+    ensures sent { sent_of cell.new ≡ sent_of cell.old ++ parcel ∷ [] }
+    ensures back { came_of cell.new ≡ came_of cell.old }
+    ensures end { SameEnd cell.old cell.new }
+{
+    let pass = take_pass(place);
+    put_pass(place, send(way, alloc, pass, cell, parcel));
+}
+
+// The next parcel that is back. It waits for it, by the pass in this place.
+fn back_in<X: Shared + Drop, H: Wait + Drop, W: Wait>(
+    way: &Way<'_, Shard<X, H>, W>,
+    alloc: Global,
+    place: &mut Option<Pass>,
+    cell: &mut Cell<X::Parcel>,
+) -> X::Parcel
+    requires known { IsKnown limits_for way.now.ring way.now.squeue.now place.old cell.old }
+    requires out { length (came_of cell.old) < length (sent_of cell.old) }
+    ensures known { IsKnown limits_for way.now.ring way.now.squeue.now place.new cell.new }
+    ensures sent { sent_of cell.new ≡ sent_of cell.old }
+    ensures back { came_of cell.new ≡ came_of cell.old ++ result ∷ [] }
+    ensures end { SameEnd cell.old cell.new }
+{
+    let pass = take_pass(place);
+    let (pass, parcel) = wait_back(way, alloc, pass, cell);
+    put_pass(place, pass);
+    parcel
 }

@@ -5,7 +5,7 @@ use crate::ending::gather;
 use crate::making::{make_all, residents_of, tasks_of};
 use crate::pool::ShardPool;
 use crate::ring::RingLanes;
-use perimeter_core::NoHook;
+use perimeter_core::{Known, NoHook};
 use shards::{Shard, Shared};
 use squeue_serve::{Job, Squeues, close_all, discard, jobs_of, run_each, run_unused, work};
 use squeue_state::{Ended, Squeue};
@@ -116,12 +116,14 @@ fn run_job<X: Shared + Drop, B: Brings<Parcel = X::Parcel> + Drop, W: Wait>(
                 mut bringer,
                 cells,
             } = ring;
+            let first = Known::of(&cells);
             let mut lanes = RingLanes {
                 rt,
                 squeues,
                 pool: *pool,
                 ring: number,
                 cells,
+                first,
                 places,
             };
             bringer.bring(alloc, &mut lanes);
@@ -131,6 +133,7 @@ fn run_job<X: Shared + Drop, B: Brings<Parcel = X::Parcel> + Drop, W: Wait>(
                 pool: _,
                 ring: _,
                 cells,
+                first: _,
                 places,
             } = lanes;
             let empty = replace(&mut job.places, places);
