@@ -1,7 +1,12 @@
-//! The end of a run.
+//! The end of a run: squeue by squeue, the last one first, what its rings shared takes what is left in its lanes.
+ghost use Rattle.std.specs.Prelude.{◌≡◌, [], length};
+ghost use Rattle.shards.specs.Merging.{IsMerged};
+ghost use Rattle.shards.specs.Sharing.{ends_of, origin_of, rings_of, shared_of};
+ghost use Rattle.shard_rings.specs.Columns.{AreLanes, IsFinished};
+
 use crate::cell::Cell;
 use crate::run::{ServedShard, Task};
-use shards::{Shard, Shared, SqueueEnd};
+use shards::{Shard, Shared};
 use squeue_serve::{Job, Squeues, end_last};
 use std::alloc::Global;
 use std::sync::Wait;
@@ -13,25 +18,26 @@ pub(crate) fn gather<X: Shared + Drop, W: Wait, B: Drop>(
     squeues: &mut Squeues<Shard<X, &W>>,
     jobs: &mut Vec<Job<Task<B, X::Parcel>>>,
     room: Vec<ServedShard<X>>,
+    column: Vec<Cell<X::Parcel>>,
 ) -> Vec<ServedShard<X>> {
     let mut left = room;
+    let mut column = column;
     'squeues: while let Some((resident, end, _trace)) = end_last(squeues, jobs, 0, rings) {
-        let (mut shared, mut ends) = resident.into_parts();
-        take_rest(alloc, rings, jobs, &mut shared, &mut ends);
+        take_column(rings, jobs, &mut column);
+        let shared = finish(alloc, resident, &mut column);
         left.push_reserved(ServedShard { shared, end });
     }
     left.reverse();
     left
 }
 
-// Takes what is left in the lanes of the last squeue, whose cells come from the jobs of the rings.
-fn take_rest<X: Shared + Drop, B: Drop>(
-    alloc: Global,
+// Takes the last cell of each ring, by ring.
+fn take_column<B: Drop, P: Drop>(
     rings: usize,
-    jobs: &mut Vec<Job<Task<B, X::Parcel>>>,
-    shared: &mut X,
-    ends: &mut Vec<SqueueEnd<X::Parcel>>,
+    jobs: &mut Vec<Job<Task<B, P>>>,
+    column: &mut Vec<Cell<P>>,
 ) {
+    column.clear();
     for p in 0..rings {
         let Task::Ring(ring) = &mut jobs[p].task else {
             unreachable!()
@@ -39,22 +45,26 @@ fn take_rest<X: Shared + Drop, B: Drop>(
         let Some(cell) = ring.cells.pop() else {
             unreachable!()
         };
-        take_lane(alloc, p as u32, cell, shared, &mut ends[p]);
+        column.push_reserved(cell);
     }
 }
 
-// Takes all parcels of a ring that were sent and not taken.
-fn take_lane<X: Shared>(
+// What the rings shared, when it has taken all that they sent by these cells.
+fn finish<X: Shared + Drop, W: Wait>(
     alloc: Global,
-    ring: u32,
-    cell: Cell<X::Parcel>,
-    shared: &mut X,
-    end: &mut SqueueEnd<X::Parcel>,
-) {
-    let mut cell = cell;
-    let many = end.input.slots_beside(&mut cell.end.output);
-    for _k in 0..many {
-        let mut parcel = end.input.pop_known();
-        shared.take(alloc, ring, &mut parcel);
+    shard: Shard<X, &W>,
+    column: &mut Vec<Cell<X::Parcel>>,
+) -> X
+    requires lanes { AreLanes column.old.items (ends_of shard) }
+    requires rings { rings_of shard ≡ length column.old.items }
+    requires merged { IsMerged X.is_made (ends_of shard) (shared_of shard) }
+    ensures finished { IsFinished X.is_made column.old.items result }
+    ensures origin { X.origin result ≡ (origin_of shard).0 }
+{
+    let mut shard = shard;
+    for p in 0..column.len() {
+        shard.take_rest(alloc, p as u32, &mut column[p].end);
     }
+    let (shared, _ends) = shard.into_parts();
+    shared
 }

@@ -56,6 +56,7 @@ where
     let many = shared.len();
     let room = Vec::with_capacity(alloc, many)?;
     let done = Vec::with_capacity(alloc, count)?;
+    let column = Vec::with_capacity(alloc, count)?;
     let (tasks, ends) = tasks_of(alloc, pool.parcels, many, rings)?;
     let residents = residents_of(rt, alloc, shared, ends)?;
     let jobs = jobs_of(alloc, tasks, many)?;
@@ -67,7 +68,7 @@ where
     let mut squeues = squeues;
     let made = make_all(alloc, pool.parcels, count, residents, &mut jobs, &mut squeues);
     run_or_end(rt, alloc, pool, &made, squeues.all.as_slice(), count, &mut jobs);
-    let left = gather(alloc, count, &mut squeues, &mut jobs, room);
+    let left = gather(alloc, count, &mut squeues, &mut jobs, room, column);
     let done = bringers_of(jobs, done);
     squeues.destroy_empty();
     made?;

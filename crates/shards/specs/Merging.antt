@@ -2,6 +2,7 @@
 -- it went back.
 use Rattle.std.specs.Prelude.{◌≡◌, ℕ, ◌<◌, Some, List, ◌∷◌, [], ◌++◌, length, map, slice_get, slice_set}
 use Rattle.std.specs.List.{AllByRecursion}
+use mathlib.Core.List.{IsPrefix}
 use Rattle.rtrb.specs.Ring.{SameConsumer, SameProducer, received, sent}
 use Rattle.shards.specs.Mixing.{from_ring}
 use Rattle.shards.specs.declared.lanes.RingEnd.{RingEnd}
@@ -43,6 +44,10 @@ module _ {T : Type 0} where
   -- these were popped of the ring's lane
   abbrev pub HasAll : List (SqueueEnd T) → ℕ → List T → Type 0
   HasAll ends p all = (end : SqueueEnd T) → slice_get ends p ≡ Some end → received end.input ≡ all
+
+  -- the ring took a front of what was given back to it
+  abbrev pub GaveBack : List (SqueueEnd T) → ℕ → List T → Type 0
+  GaveBack ends p taken = (end : SqueueEnd T) → slice_get ends p ≡ Some end → IsPrefix taken (sent end.back)
 
   module _ {S : Type 0} (IsMade : List (ℕ × (T × T)) → S → Type 0) where
     -- there is a log of what came by all lanes and by no other, of which what is shared is made

@@ -40,8 +40,8 @@ pub struct Shard<X: Shared + Drop, H: Wait + Drop> {
 
 impl<X: Shared + Drop, H: Wait + Drop> Shard<X, H> {
     ghost use Rattle.placed_parts.specs.Standing.{all_new};
-    ghost use Rattle.rtrb.specs.Ring.{ProducerLooked, sent};
-    ghost use Rattle.shards.specs.Merging.{HasAll, IsLaneAt, IsMerged};
+    ghost use Rattle.rtrb.specs.Ring.{ConsumerLooked, ProducerLooked, received, sent};
+    ghost use Rattle.shards.specs.Merging.{GaveBack, HasAll, IsLaneAt, IsMerged};
     ghost use Rattle.shards.specs.Numbering.{ring_limits};
     ghost use Rattle.shards.specs.Sharing.{StandsFor, ends_of, first_ends, limits_for, origin_of, rings_of, shared_of};
 
@@ -92,7 +92,8 @@ impl<X: Shared + Drop, H: Wait + Drop> Shard<X, H> {
         ensures origin { origin_of self.new ≡ origin_of self.old }
         ensures merged { IsMerged X.is_made (ends_of self.old) (shared_of self.old) → IsMerged X.is_made (ends_of self.new) (shared_of self.new) }
         ensures output { ProducerLooked ring.old.output ring.new.output }
-        ensures back { ring.new.back ≡ ring.old.back }
+        ensures back { ConsumerLooked ring.old.back ring.new.back }
+        ensures front { GaveBack (ends_of self.new) p (received ring.old.back) }
     {
         take_all(
             &self.rt,

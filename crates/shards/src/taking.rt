@@ -1,6 +1,7 @@
 //! How a parcel is taken, and goes back.
 ghost use Rattle.std.specs.Prelude.{◌≡◌, ◌+◌, ◌<◌, ◌∷◌, ◌++◌, [], length};
-ghost use Rattle.rtrb.specs.Ring.{ProducerLooked, SameConsumer, SameProducer, known_items, received, sent};
+ghost use mathlib.Core.List.{IsPrefix};
+ghost use Rattle.rtrb.specs.Ring.{ConsumerLooked, ProducerLooked, SameConsumer, SameProducer, known_items, received, sent};
 ghost use Rattle.shards.specs.Lanes.{IsLane};
 ghost use Rattle.shards.specs.Merging.{Merges, SameLane, TookOne};
 
@@ -39,12 +40,14 @@ pub(crate) fn take_all<X: Shared, W: Wait>(
 )
     requires { IsLane ring.old end.old }
     ensures all { received end.new.input ≡ sent ring.old.output }
+    ensures front { IsPrefix (received ring.old.back) (sent end.new.back) }
     ensures same { SameLane end.old end.new }
     ensures merges { Merges X.is_made p end.old end.new shared.old shared.new }
     ensures origin { X.origin shared.new ≡ X.origin shared.old }
     ensures output { ProducerLooked ring.old.output ring.new.output }
-    ensures back { ring.new.back ≡ ring.old.back }
+    ensures back { ConsumerLooked ring.old.back ring.new.back }
 {
+    let _back = ring.back.slots_beside(&mut end.back);
     let many = end.input.slots_beside(&mut ring.output);
     for _k in 0..many {
         take_known(rt, alloc, shared, end, p);

@@ -1,4 +1,4 @@
-use Rattle.std.proofs.Common.{◌≡◌, List, [], ◌∷◌, ◌++◌, length, refl, sym, ◌∙◌, arith, append-nil, ap}
+use Rattle.std.proofs.Common.{◌≡◌, List, [], ◌∷◌, ◌++◌, length, refl, sym, ◌∙◌, arith, append-nil, append_assoc, ap}
 use Rattle.rtrb.specs.Ring.{known_items, received}
 use Rattle.shards.proofs.MergedMore.{joined, merges_one, merges_same, merges_then}
 use Rattle.shards.proofs.taking.take_all.Goals as goal
@@ -9,13 +9,17 @@ all_here xs (y ∷ ys) zs none is = absurd (omega (arith, none))
 
 pub loop-k-init : goal.loop-k-init
 loop-k-init g c =
+    let back = c.slots_beside-back.ensures in
     let looked = c.slots_beside-many.ensures in
     let was = c.args.end.now in
     record {
       left = omega (arith, looked.value);
       all = looked.fifo ∙ looked.producer.1;
-      same = (looked.looked.0, ((refl, refl, refl, refl), refl));
-      merges = merges_same g.X.Shared.is_made c.args.p was (record { input = c.slots_beside-many.new.self; back = was.back }) c.args.shared.now looked.looked.1 refl;
+      front = (known_items c.slots_beside-back.new.self, ap (λ l. l ++ known_items c.slots_beside-back.new.self) (sym back.looked.1) ∙ back.fifo);
+      same = (looked.looked.0, back.producer.0);
+      merges =
+          merges_same g.X.Shared.is_made c.args.p was (record { input = c.slots_beside-many.new.self; back = c.slots_beside-back.new.producer }) c.args.shared.now looked.looked.1
+          back.producer.1;
       origin = refl;
     }
 
@@ -34,6 +38,7 @@ loop-k-preserved g c =
     record {
       left = omega (arith, left, fewer);
       all = one.all ∙ i.all;
+      front = (i.front.0 ++ one.took.went ∷ [], sym (append_assoc (received c.args.ring.now.back) i.front.0 (one.took.went ∷ [])) ∙ (ap (λ l. l ++ one.took.went ∷ []) i.front.1 ∙ sym one.took.pushed));
       same = joined c.args.end.now c.loop-k.end c.take_known.new.end i.same one.same;
       merges =
           merges_then g.X.Shared.is_made c.args.p c.args.end.now c.loop-k.end c.take_known.new.end c.args.shared.now c.loop-k.shared c.take_known.new.shared i.merges
