@@ -2,6 +2,7 @@
 use Rattle.std.specs.Prelude.{◌≡◌, ℕ, ◌<◌, Some, List, length, slice_get}
 use Rattle.std.specs.List.{AllByRecursion}
 use mathlib.Core.List.{IsPrefix}
+use Rattle.rtrb.specs.Ring.{received, sent}
 use Rattle.shards.specs.declared.lanes.SqueueEnd.{SqueueEnd}
 use Rattle.shards.specs.Lanes.{IsLane}
 use Rattle.shards.specs.Merging.{came_from, went_to}
@@ -13,6 +14,11 @@ module _ {T : Type 0} where
   pub record AreLanes (column : List (Cell T)) (ends : List (SqueueEnd T)) : Type 0 where
     pub count : length ends ≡ length column
     pub each : (p : ℕ) (c : Cell T) (end : SqueueEnd T) → slice_get column p ≡ Some c → slice_get ends p ≡ Some end → IsLane c.end end
+
+  -- all that the ring sent by this cell was popped, and what it took back is a front of what was given back to it
+  pub record HasTaken (c : Cell T) (end : SqueueEnd T) : Type 0 where
+    pub all : received end.input ≡ sent_of c
+    pub front : IsPrefix (came_of c) (sent end.back)
 
   -- there is a log of all that the rings sent by these cells, of which this is made
   pub record IsFinished {X : Type 0} (IsMade : List (ℕ × (T × T)) → X → Type 0) (column : List (Cell T)) (shared : X) : Type 0 where
