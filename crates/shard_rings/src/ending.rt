@@ -1,5 +1,5 @@
 //! The end of a run: squeue by squeue, the last one first, what its rings shared takes what is left in its lanes.
-ghost use Rattle.std.specs.Prelude.{◌≡◌, [], length};
+ghost use Rattle.std.specs.Prelude.{◌≡◌, [], length, vec_capacity};
 ghost use Rattle.shards.specs.Merging.{IsMerged};
 ghost use Rattle.shards.specs.Sharing.{ends_of, origin_of, rings_of, shared_of};
 ghost use Rattle.shard_rings.specs.Columns.{AreLanes, IsFinished};
@@ -37,7 +37,6 @@ fn take_column<B: Drop, P: Drop>(
     jobs: &mut Vec<Job<Task<B, P>>>,
     column: &mut Vec<Cell<P>>,
 ) {
-    column.clear();
     for p in 0..rings {
         let Task::Ring(ring) = &mut jobs[p].task else {
             unreachable!()
@@ -49,7 +48,7 @@ fn take_column<B: Drop, P: Drop>(
     }
 }
 
-// What the rings shared, when it has taken all that they sent by these cells.
+// What the rings shared, when it has taken all that they sent by these cells, the last ring's first. No cell is left.
 fn finish<X: Shared + Drop, W: Wait>(
     alloc: Global,
     shard: Shard<X, &W>,
@@ -58,12 +57,20 @@ fn finish<X: Shared + Drop, W: Wait>(
     requires lanes { AreLanes column.old.items (ends_of shard) }
     requires rings { rings_of shard ≡ length column.old.items }
     requires merged { IsMerged X.is_made (ends_of shard) (shared_of shard) }
+    ensures none { column.new.items ≡ [] }
+    ensures kept { vec_capacity column.new ≡ vec_capacity column.old }
     ensures finished { IsFinished X.is_made column.old.items result }
     ensures origin { X.origin result ≡ (origin_of shard).0 }
 {
     let mut shard = shard;
-    for p in 0..column.len() {
-        shard.take_rest(alloc, p as u32, &mut column[p].end);
+    'cells: while let Some(cell) = column.pop() {
+        let Cell {
+            mut end,
+            entered: _,
+            pushed: _,
+            popped: _,
+        } = cell;
+        shard.take_rest(alloc, column.len() as u32, &mut end);
     }
     let (shared, _ends) = shard.into_parts();
     shared

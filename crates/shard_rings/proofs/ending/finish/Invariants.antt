@@ -1,21 +1,20 @@
-use Rattle.std.proofs.Common.{◌≡◌, ℕ, ◌<◌, ◌≤◌, Some, length, slice_get}
-use Rattle.shards.specs.declared.lanes.SqueueEnd.{SqueueEnd}
+use Rattle.std.proofs.Common.{◌≡◌, ◌≤◌}
+use Rattle.std.specs.Prelude.{length, vec_capacity}
 use Rattle.shards.specs.Merging.{IsMerged}
 use Rattle.shards.specs.Sharing.{ends_of, origin_of, rings_of, shared_of}
-use Rattle.shard_rings.specs.declared.cell.Cell.{Cell}
-use Rattle.shard_rings.specs.Columns.{HasTaken}
+use Rattle.shard_rings.proofs.Columns.{SoFar}
 use Rattle.shard_rings.proofs.ending.finish.Given as goal
 
--- the lanes of the rings below p are empty, and the others are as they were
-abbrev pub invariant-loop-p : goal.invariant-loop-p
-invariant-loop-p g l =
+abbrev pub invariant-cells : goal.invariant-cells
+invariant-cells g l =
     record {
-      count : length l.column.items ≡ length l.fn.column.items;
-      cells : (q : ℕ) → l.p ≤ q → slice_get l.column.items q ≡ slice_get l.fn.column.items q;
-      ends : (q : ℕ) → l.p ≤ q → slice_get (ends_of l.shard) q ≡ slice_get (ends_of l.initial.shard) q;
-      taken : (q : ℕ) (c : Cell g.row.X-Parcel.Denot) (end : SqueueEnd g.row.X-Parcel.Denot) → q < l.p → slice_get l.fn.column.items q ≡ Some c → slice_get (ends_of l.shard) q ≡ Some end
-          → HasTaken c end;
+      so_far : SoFar l.fn.column.items l.column.items (ends_of l.initial.shard) (ends_of l.shard);
+      few : length l.column.items ≤ length l.fn.column.items;
       rings : rings_of l.shard ≡ rings_of l.initial.shard;
       origin : origin_of l.shard ≡ origin_of l.initial.shard;
       merged : IsMerged g.X.Shared.is_made (ends_of l.shard) (shared_of l.shard);
+      kept : vec_capacity l.column ≡ vec_capacity l.fn.column;
     }
+
+abbrev pub decreases-cells : goal.decreases-cells
+decreases-cells g l = length l.column.items
