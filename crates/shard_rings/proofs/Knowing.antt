@@ -33,7 +33,7 @@ module _ {R : Type 0} (limits : R → Limits) (s : Named R) (ring : ℕ) where
     pub away : is_here (run (setting_of limits s.given) (seen p)) ring ≡ false
     pub left : times_left ring (seen p) ≤ fed
     pub asks : asks_by ring (seen p) + 1 ≤ 2 * times_left ring (seen p)
-    pub fed : feeds_by ring (seen p) ≡ fed
+    pub feeds : feeds_by ring (seen p) ≡ fed
 
   its : (p : Pass Element) → number p ≡ ring → Serves limits s ring → number p ≡ ring % s.given.rings
   its p same serves = same ∙ serves.its_ring
@@ -76,7 +76,7 @@ module _ {R : Type 0} (limits : R → Limits) (s : Named R) (ring : ℕ) where
         away = learns.now_here;
         left = omega (arith, left, was, some);
         asks = omega (arith, asks, asked, left);
-        fed = feeds ∙ at.fed;
+        feeds = feeds ∙ at.feeds;
       }
 
   pub may_come : (fed : ℕ) (p : Pass Element) → Serves limits s ring → fed ≤ 2 ^ 50 → IsOut fed p → MayCome limits s ring p
@@ -108,7 +108,7 @@ module _ {R : Type 0} (limits : R → Limits) (s : Named R) (ring : ℕ) where
         next = next;
         left = omega (arith, left, was);
         asks = omega (arith, asks, asked, left);
-        fed = feeds ∙ out.fed;
+        feeds = feeds ∙ out.feeds;
       }
 
   -- it may enter its next feed
@@ -116,7 +116,7 @@ module _ {R : Type 0} (limits : R → Limits) (s : Named R) (ring : ℕ) where
   may_enter n fed p serves below life at =
       let numbers = serves.numbers in
       let quota = serves.feeds in
-      let is = at.fed in
+      let is = at.feeds in
       record {
         pass = at.pass;
         no_worker = subst (λ (k : ℕ). k < length s.given.quotas) (sym at.is_number) serves.no_worker;
@@ -138,7 +138,7 @@ module _ {R : Type 0} (limits : R → Limits) (s : Named R) (ring : ℕ) where
         let asks : asks_by ring (seen q) ≡ asks_by ring (seen p) = subst (λ (k : ℕ). asks_by k (seen q) ≡ asks_by k (seen p)) at.is_number brought.asks in
         let asked = at.asks in
         let feeds : feeds_by ring (seen q) ≡ feeds_by ring (seen p) + length es = subst (λ (k : ℕ). feeds_by k (seen q) ≡ feeds_by k (seen p) + length es) at.is_number brought.feeds in
-        let is = at.fed in
+        let is = at.feeds in
         record {
           pass = pass;
           is_number = same ∙ at.is_number;
@@ -147,7 +147,7 @@ module _ {R : Type 0} (limits : R → Limits) (s : Named R) (ring : ℕ) where
           next = omega (arith, next, was, own);
           left = omega (arith, left, few);
           asks = omega (arith, left, asks, asked);
-          fed = omega (arith, feeds, is, all);
+          feeds = omega (arith, feeds, is, all);
         }
 
   -- it has entered it

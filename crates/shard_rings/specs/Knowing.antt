@@ -50,4 +50,4 @@ module _ {R : Type 0} (limits : R → Limits) (s : Named R) where
     pub next : due (seen p) ring ≡ n
     pub left : times_left ring (seen p) + n ≤ fed
     pub asks : asks_by ring (seen p) ≤ 2 * times_left ring (seen p)
-    pub fed : feeds_by ring (seen p) ≡ fed
+    pub feeds : feeds_by ring (seen p) ≡ fed

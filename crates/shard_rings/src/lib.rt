@@ -16,6 +16,7 @@ mod ring;
 mod run;
 #[cfg(test)]
 mod tests;
+mod way;
 
 pub use bringing::Brings;
 pub use lanes::Lanes;

@@ -4,9 +4,10 @@ ghost use Rattle.shards.specs.Sharing.{limits_for};
 ghost use Rattle.shard_rings.specs.Knowing.{IsBeside, SameEnd, came_of, sent_of};
 ghost use Rattle.shard_rings.specs.Rows.{AreKnown, IsKnown, SameEnds};
 
-use crate::cell::{Cell, Way, pop_back, send, wait_back};
+use crate::cell::Cell;
 use crate::lanes::Lanes;
 use crate::pool::ShardPool;
+use crate::way::{Way, pop_back, send, wait_back};
 use perimeter_core::Known;
 use shards::{Shard, Shared};
 use squeue_serve::{put_pass, take_pass};

@@ -1,6 +1,6 @@
 use Rattle.std.proofs.Common.{◌≡◌}
 use Rattle.rtrb.specs.Ring.{SameProducer, sent}
-use Rattle.shard_rings.proofs.cell.push.Given as goal
+use Rattle.shard_rings.proofs.way.push.Given as goal
 
 abbrev pub invariant-tries : goal.invariant-tries
 invariant-tries g l =

@@ -1,7 +1,7 @@
 use Rattle.std.proofs.Common.{refl, sym}
 use Rattle.shards.specs.Sharing.{limits_for}
 use Rattle.shard_rings.proofs.Knowing.{came_in, may_come, may_leave, went_out}
-use Rattle.shard_rings.proofs.cell.renew.Goals as goal
+use Rattle.shard_rings.proofs.way.renew.Goals as goal
 
 pub take_out-pass-requires : goal.take_out-pass-requires
 take_out-pass-requires g c =

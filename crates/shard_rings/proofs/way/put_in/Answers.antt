@@ -1,7 +1,7 @@
 use Rattle.std.specs.Prelude.{[]}
 use Rattle.conn_migrate.proofs.Halves.{moved, puts}
 use Rattle.conn_migrate.proofs.OwnMarks.{knows_in, next_in}
-use Rattle.shard_rings.proofs.cell.put_in.Goals as goal
+use Rattle.shard_rings.proofs.way.put_in.Goals as goal
 
 pub put_block-requires : goal.put_block-requires
 put_block-requires g c =

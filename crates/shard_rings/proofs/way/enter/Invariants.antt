@@ -1,6 +1,6 @@
 use Rattle.std.proofs.Common.{◌≡◌, ℕ, ◌<◌, ◌^◌}
 use Rattle.shard_rings.specs.Knowing.{IsAt}
-use Rattle.shard_rings.proofs.cell.enter.Given as goal
+use Rattle.shard_rings.proofs.way.enter.Given as goal
 
 abbrev pub invariant-tries : goal.invariant-tries
 invariant-tries g l =

@@ -1,7 +1,7 @@
 use Rattle.std.proofs.Common.{◌≡◌, length}
 use Rattle.shards.specs.Sharing.{limits_for}
 use Rattle.shard_rings.specs.Knowing.{IsAt, SameEnd, came_of, sent_of}
-use Rattle.shard_rings.proofs.cell.wait_back.Given as goal
+use Rattle.shard_rings.proofs.way.wait_back.Given as goal
 
 abbrev pub invariant-waits : goal.invariant-waits
 invariant-waits g l =

@@ -1,6 +1,6 @@
 use Rattle.conn_migrate.proofs.Halves.{moved, takes}
 use Rattle.conn_migrate.proofs.OwnMarks.{knows_out}
-use Rattle.shard_rings.proofs.cell.take_out.Goals as goal
+use Rattle.shard_rings.proofs.way.take_out.Goals as goal
 
 pub take_block-part-requires : goal.take_block-part-requires
 take_block-part-requires g c =
