@@ -85,12 +85,12 @@ LABELLED = re.compile("(?P<ring>ring)_(?P<which>[0-9]+)_(?P<way>in|out)|(?P<answ
 
 
 def exposition(facts):
-    """The facts in the text format of Prometheus: all lines of a name stand together."""
+    """The facts in the text format of Prometheus: all lines of a name stand together. What the launcher saw is told from the server's own count of it."""
     samples = {}
     for fact, value in facts.items():
         found = LABELLED.fullmatch(fact)
         if not found:
-            name, labels = fact, ""
+            name, labels = f"seen_{fact}" if f"{fact}_total" in facts else fact, ""
         elif found["ring"]:
             name, labels = f"ring_{found['way']}", f'{{ring="{found["which"]}"}}'
         else:
@@ -104,11 +104,20 @@ def tell(device, follow, prometheus=False):
     """What the server on a device met so far: a fact a line, or in the format of Prometheus, or to follow it a line a second until it ends. Why that
     isn't all, or None."""
     facts = facts_of(device) or {}
+    try:
+        return shown(device, facts, follow, prometheus)
+    except BrokenPipeError:
+        # who reads has enough, as `head` does; nothing is left to be written at the end
+        os.dup2(os.open(os.devnull, os.O_WRONLY), sys.stdout.fileno())
+        return None
+
+
+def shown(device, facts, follow, prometheus):
+    """Prints these facts, and follows them. Why they aren't all, or None."""
     if prometheus:
-        print(end=exposition(facts))
+        print(end=exposition(facts), flush=True)
     elif not follow:
-        for fact, value in facts.items():
-            print(fact, value)
+        print(end="".join(f"{fact} {value}\n" for fact, value in facts.items()), flush=True)
     why = why_not_all(device, facts)
     with contextlib.suppress(KeyboardInterrupt):
         while follow and not prometheus and facts:

@@ -359,6 +359,19 @@ sqlive_connections 2
 sqlive_opened_total 5
 """)
 
+    def test_what_both_count(self):
+        """Names that differ by `_total` alone are one to OpenMetrics: what the launcher saw has a name of its own."""
+        names = re.findall(r"(?m)^(sqlive_\w+) ", status.exposition({"opened": 7, "open": 3, "opened_total": 5}))
+        self.assertEqual(names, ["sqlive_seen_opened", "sqlive_open", "sqlive_opened_total"])
+
+    def test_who_reads_the_first_line_alone(self):
+        """As `status | head -1` does."""
+        with status.told("sqlive0", self.Knows()):
+            asked = f"import os, sys; sys.path[:0] = {sys.path!r}; import status; from pathlib import Path; status.places = lambda _: [Path({str(self.places[0])!r})]; " \
+                "reads, writes = os.pipe(); os.close(reads); os.dup2(writes, 1); sys.exit(status.tell('sqlive0', False))"
+            done = subprocess.run([sys.executable, "-c", asked], capture_output=True, text=True)
+        self.assertEqual((done.returncode, done.stderr), (0, ""))
+
     def test_why_that_is_not_all(self):
         self.assertRegex(status.why_not_all("sqlive0", {}), "no tools/sqlive runs on sqlive0")
         self.assertRegex(status.why_not_all("sqlive0", {"open": "3"}), "told no counts")
