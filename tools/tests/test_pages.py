@@ -75,9 +75,12 @@ class Shown(unittest.TestCase):
         report = re.sub(r"(?m)^    ", "", lines).encode()
         self.assertEqual(output([SQREPLAY], report + (TOP / "crates" / "sqrun" / "stdin").read_bytes()), b"yes\n")
 
-    def test_the_example_is_that_of_the_test(self):
-        code = re.search(r"```rust\n(.*?)```", (TOP / "docs" / "TCP_LIBRARY.md").read_text(), re.S)[1]
-        self.assertIn(" ".join(code.split()), " ".join((TOP / "crates" / "tcp_tests" / "src" / "services" / "library.rt").read_text().split()))
+    def test_programs_are_those_of_crates(self):
+        """Code of more than two lines stands in a file that the gate checks."""
+        plain = lambda text: " ".join(text.split())
+        held = [plain(path.read_text(encoding="utf-8")) for path in TOP.glob("crates/*/src/**/*.rt")]
+        shown = [(page, code) for page in PAGES for code in re.findall(r"```rust\n(.*?)```", page.read_text(encoding="utf-8"), re.S)]
+        self.assertEqual([f"{page.name}: {code[:60]}" for page, code in shown if code.count("\n") > 2 and not any(plain(code) in text for text in held)], [])
 
 
 class Glossary(unittest.TestCase):

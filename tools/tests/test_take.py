@@ -17,18 +17,19 @@ class Taken(unittest.TestCase):
 
     def test_the_door(self):
         said = output([TOOLS / "take", "squeue", self.to]).decode()
-        *lines, program, arrivals = (self.to / "crates.txt").read_text().splitlines()[1:]
+        lines = (self.to / "crates.txt").read_text().splitlines()[1:]
         names = [line.split()[0].rstrip(":") for line in lines]
         self.assertEqual(lines, [LINES[name] for name in names])
         for line in lines:
             self.assertLessEqual({word for word in line.partition(":")[2].split() if word in LINES}, set(names), line)
-        self.assertEqual((program, arrivals), ("totals may_wait=1: squeue key_counters", "arrivals may_wait=1: squeue_enter squeue_arrivals arriving_counters"))
-        self.assertEqual(sorted(path.name for path in (self.to / "crates").iterdir()), sorted([*names, "totals", "arrivals"]))
-        self.assertLessEqual({"squeue", "key_counters", "squeue_arrivals", "arriving_counters"}, set(names))
+        self.assertEqual(sorted(path.name for path in (self.to / "crates").iterdir()), sorted(names))
+        self.assertLessEqual({"squeue", "key_counters", "totals", "squeue_arrivals", "arriving_counters", "arrivals"}, set(names))
         for name in names:
             for part in ("src", "specs", "proofs"):
                 files = lambda top: {path.relative_to(top): path.read_bytes() for path in top.rglob("*") if path.is_file()}
                 self.assertEqual(files(self.to / "crates" / name / part), files(TOP / "crates" / name / part))
+        for name in ("totals", "arrivals"):
+            self.assertEqual((self.to / "crates" / name / "stdout").read_bytes(), (TOP / "crates" / name / "stdout").read_bytes())
         for name in ("HANDLES", "LICENSE"):
             self.assertEqual((self.to / name).read_bytes(), (TOP / name).read_bytes())
         self.assertIn(f"{len(names)} crates with ", said)
