@@ -149,18 +149,36 @@ class Capture:
 @dataclass
 class Connection:
     """What was seen of one: the number that it began with, the one behind the server's SYN, whether the handshake is over, whose FIN came
-    (1 the client's, 2 the server's), and the number that the client acknowledged last."""
+    (1 the client's, 2 the server's), the number that the client acknowledged last, and when its SYN came."""
     began: int
     answer: int | None = None
     opened: bool = False
     fins: int = 0
     acked: int | None = None
+    since: float = 0.0
 
     def shows_opened(self, inward, flags, ack):
         """Whether this segment shows that the handshake is over: it acknowledges the server's SYN, or is the server's FIN."""
         if self.answer is None or not inward:
             return self.answer is not None and bool(flags & FIN)
         return bool(flags & ACK) and (ack - self.answer) % 2**32 <= MOST_UNDER_WAY
+
+
+class Log:
+    """A line for each connection that was open, when it ends: the time, the client, the port, for how many seconds, and how it ended."""
+    def __init__(self, file):
+        self.file = file
+
+    def tell(self, ends, since, how):
+        client, theirs, ours = socket.inet_ntoa(ends[:4]), *struct.unpack(">HH", ends[4:])
+        at = time.time()
+        line = f"{time.strftime('%Y-%m-%dT%H:%M:%S', time.gmtime(at))}.{int(at * 1000) % 1000:03}Z {client}:{theirs} {ours} {time.monotonic() - since:.3f} {how}\n"
+        try:
+            if self.file is not None:
+                os.write(self.file, line.encode())
+        except OSError as error:
+            self.file = None
+            print(f"sqlive: the log ends here: {error.strerror}", file=sys.stderr, flush=True)
 
 
 class Connections:
@@ -171,13 +189,20 @@ class Connections:
     """
     MOST = 1 << 17
 
-    def __init__(self, server, ports):
-        self.server, self.ports, self.known = server.packed, frozenset(ports), OrderedDict()
+    def __init__(self, server, ports, log=None):
+        self.server, self.ports, self.known, self.log = server.packed, frozenset(ports), OrderedDict(), log or Log(None)
         self.asked = self.opened = self.open = self.refused = self.resets_in = self.resets_out = 0
 
-    def over(self, ends):
+    def over(self, ends, how):
         found = self.known.pop(ends, None)
-        self.open -= bool(found and found.opened)
+        if found and found.opened:
+            self.open -= 1
+            self.log.tell(ends, found.since, how)
+
+    def finish(self):
+        """The server has ended: what is open ends too."""
+        while self.known:
+            self.over(next(iter(self.known)), "left-open")
 
     def see(self, datagram):
         tcp = datagram[4 * (datagram[0] & 15):]
@@ -207,18 +232,18 @@ class Connections:
         if flags & FIN:
             found.fins |= 1 if inward else 2
             if found.fins == 3:
-                self.over(ends)
+                self.over(ends, "closed")
 
     def asks(self, ends, began):
         """A SYN: a new connection, or one that is sent again."""
         if (found := self.known.get(ends)) and found.began == began:
             return
-        self.over(ends)
+        self.over(ends, "unseen")
         if struct.unpack(">H", ends[-2:])[0] in self.ports:
             self.asked += 1
-            self.known[ends] = Connection(began)
+            self.known[ends] = Connection(began, since=time.monotonic())
             if len(self.known) > self.MOST:
-                self.over(next(iter(self.known)))
+                self.over(next(iter(self.known)), "unseen")
 
     def reset(self, ends, inward, port):
         if inward:
@@ -227,7 +252,7 @@ class Connections:
             self.resets_out += 1
         else:
             self.refused += 1
-        self.over(ends)
+        self.over(ends, "reset-by-client" if inward else "reset-by-server")
 
     def still_open(self, most):
         """Both ends and what was seen of each open connection whose client acknowledged something; of more than so many the youngest."""

@@ -1,9 +1,11 @@
 """TUN devices, whose reads and writes are whole IPv4 datagrams."""
 import errno
 import fcntl
+import json
 import os
 import socket
 import struct
+import subprocess
 
 TUNSETIFF, SIOCSIFFLAGS, SIOCSIFADDR, SIOCSIFNETMASK, SIOCSIFMTU, SIOCSIFTXQLEN = 0x400454CA, 0x8914, 0x8916, 0x891C, 0x8922, 0x8943
 TUN_WITHOUT_HEADER, MULTI_QUEUE, LONG_SEGMENTS, NEW_ALONE = 0x0001 | 0x1000, 0x0100, 0x4000, 0x8000
@@ -62,6 +64,15 @@ def set_up(name, interface, mtu=1500):
         fcntl.ioctl(any_socket, SIOCSIFMTU, struct.pack("16si12x", name.encode(), mtu))
         fcntl.ioctl(any_socket, SIOCSIFTXQLEN, struct.pack("16si12x", name.encode(), QUEUE))
         fcntl.ioctl(any_socket, SIOCSIFFLAGS, struct.pack("16sH14x", name.encode(), UP_AND_RUNNING))
+
+
+def way_to(address):
+    """The interface by which this machine reaches an address, as `ip` of Debian's iproute2 tells; None where it isn't there."""
+    try:
+        told = subprocess.run(["ip", "-j", "route", "get", str(address)], capture_output=True, timeout=5).stdout
+        return json.loads(told)[0].get("dev")
+    except (OSError, ValueError, LookupError, subprocess.TimeoutExpired):
+        return None
 
 
 def why_none(error, name):

@@ -149,6 +149,28 @@ class Counted(unittest.TestCase):
         self.comes(RST)
         self.assert_counted(asked=2, opened=1, refused=1, resets_out=1, resets_in=1)
 
+    def test_the_log(self):
+        """A line for each connection that was open, when it ends."""
+        with tempfile.TemporaryFile() as log:
+            self.connections = seen.Connections(ipaddress.ip_address(SERVER), (7, 9), seen.Log(log.fileno()))
+            for client in range(1, 6):
+                self.comes(SYN, client=client)
+                self.goes(SYN | ACK, client=client)
+                if client != 5:
+                    self.comes(ACK, client=client)
+            self.comes(FIN | ACK, client=1)
+            self.goes(FIN | ACK, client=1)
+            self.comes(RST, client=2)
+            self.goes(RST, client=3)
+            self.connections.finish()
+            log.seek(0)
+            lines = [line.split() for line in log.read().decode().splitlines()]
+        self.assertEqual([(client, port, how) for _, client, port, _, how in lines],
+                         [(f"{socket.inet_ntoa(CLIENT)}:{n}", "7", how) for n, how in enumerate(("closed", "reset-by-client", "reset-by-server", "left-open"), 1)])
+        for at, _, _, seconds, _ in lines:
+            self.assertRegex(at, r"^\d{4}-\d\d-\d\dT\d\d:\d\d:\d\d\.\d{3}Z$")
+            self.assertLess(float(seconds), 60)
+
     def test_nobody_is_kept_for_ever(self):
         self.connections.MOST = 3
         for client in range(5):
@@ -703,18 +725,24 @@ class Launcher(unittest.TestCase):
                             ("--mtu 1501", "from 576 to 1500"), ("--pings 4294967296", "from 0 to 4294967295"), ("--rings 2 --squeues 64", "from 1 to 63"), ("--rings 2 --budget 0", "from 1 to 4294967295"),
                             ("--rings 2 --places 65537", "at most 65536 with --rings"), ("--rings 2 --conns", "--conns is no more"), ("--device a/b", "no device's name"),
                             ("--device tun%d", "no device's name"), ("--device sixteen.letters0", "no device's name"),
-                            ("--capture /nonexistent/run.pcap", "--capture /nonexistent/run.pcap: No such file or directory"),
-                            ("--capture /", "--capture /: Is a directory")):
+                            ("--capture /nonexistent/run.pcap", "--capture '/nonexistent/run.pcap': nothing can be written there"),
+                            ("--capture /", "--capture '/': it is a folder"), ("--log /", "--log '/': it is a folder")):
             self.assertIn(said, self.refused(*words.split()))
         self.assertIn("it takes 56 file descriptors, 5 of them for each ring, and may have 32", self.refused("--rings", "8", files=32))
         self.assertIn("it takes 72 file descriptors, 5 of them for each ring, and may have 64", self.refused("--rings", "8", "--pages", "/", files=64))
 
-    def test_a_capture_is_kept_until_the_device_is_there(self):
-        """A launcher that is refused empties no capture: another one may be writing it."""
+    def test_a_capture_that_is_there_is_kept(self):
         with tempfile.NamedTemporaryFile() as capture:
             Path(capture.name).write_text("of another launcher")
-            done = subprocess.run([TOOLS / "sqlive", "--program", "/bin/true", "--device", "lo", "--capture", capture.name], capture_output=True, text=True)
-            self.assertEqual((done.returncode, Path(capture.name).read_text()), (1, "of another launcher"))
+            self.assertIn(f"--capture {capture.name} is there, and isn't empty", self.refused("--capture", capture.name))
+            self.assertEqual(Path(capture.name).read_text(), "of another launcher")
+
+    def test_a_log_grows(self):
+        """A launcher that finds no device adds nothing to what is there."""
+        with tempfile.NamedTemporaryFile() as log:
+            Path(log.name).write_text("of yesterday\n")
+            done = subprocess.run([TOOLS / "sqlive", "--program", "/bin/true", "--device", "lo", "--log", log.name], capture_output=True, text=True)
+            self.assertEqual((done.returncode, Path(log.name).read_text()), (1, "of yesterday\n"))
         self.assertIn("no TUN device", done.stderr)
 
     def test_the_unit_file(self):
