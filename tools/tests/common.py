@@ -12,7 +12,7 @@ sys.path.insert(0, str(TOOLS / "parts"))
 
 from builds import path         # noqa: E402
 
-SQRUN, SQREPLAY = path("sqrun"), path("sqreplay")
+SQRUN, SQREPLAY, SQLIVE = path("sqrun"), path("sqreplay"), path("sqlive")
 MODEL = os.environ.get("SQORACLE", "")
 KEPT = Path(__file__).resolve().parent / "kept"
 

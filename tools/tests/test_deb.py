@@ -7,7 +7,7 @@ import tempfile
 import unittest
 from pathlib import Path
 
-from common import SQRUN, TOOLS, TOP, need, output
+from common import SQLIVE, SQRUN, TOOLS, TOP, need, output
 
 EXAMPLE = TOP / "examples" / "echo_short.pcap"
 
@@ -34,6 +34,8 @@ class Package(unittest.TestCase):
             shutil.rmtree(top / name)
             shutil.copytree(TOP / name, top / name)
         shutil.copy(SQRUN, top / "sqrun-unproved")
+        if os.access(SQLIVE, os.X_OK):
+            shutil.copy(SQLIVE, top / "sqlive-unproved")
         assert b"there is no ./sqrun" in output([top / "tools" / "deb", "-o", cls.folder], status=2)
         return Path(output([top / "tools" / "deb", "--unproved", "-o", cls.folder]).decode().strip())
 
@@ -50,6 +52,13 @@ class Package(unittest.TestCase):
             with self.subTest(name, words=words):
                 self.assertEqual(self.installed(name, *words), output([TOOLS / name, *words]))
         self.assertTrue(self.installed("sq", "--version").startswith(b"sq of squeues 0."))
+
+    def test_the_live_server(self):
+        """Its launcher finds the program beside it, and everything that it imports."""
+        if not os.access(SQLIVE, os.X_OK):
+            self.skipTest("no sqlive: run ./build sqlive, or name it by SQLIVE")
+        self.assertIn(b"no tools/sqlive runs on nowhere", self.installed("sqlive", "status", "--device", "nowhere", status=1))
+        self.assertIn(b"no TUN device", self.installed("sqlive", "--device", "lo", status=1))
 
     def test_the_package_says_what_is_proved(self):
         self.assertIn(b"built without proof", output(["dpkg-deb", "-f", self.made, "Description"]))
