@@ -1,7 +1,6 @@
 -- Serving by a service that keeps something from one pump to the next, with the whole streams beside the block. A connection that is over
 -- leaves a new service to the next one.
-use Rattle.std.specs.Prelude.{◌≡◌, ℕ, ◌⊎◌, false, List, [], ◌∷◌, ◌++◌, if◌then◌else◌}
-use Rattle.std.specs.List.{AllByRecursion}
+use Rattle.std.specs.Prelude.{◌≡◌, ℕ, false, List, [], ◌∷◌, ◌++◌, replicate, if◌then◌else◌}
 use Rattle.tcb_machine.specs.BlockState.{Block}
 use Rattle.tcb_machine.specs.CallAnswers.{tcp_call}
 use Rattle.tcb_machine.specs.States.{is_listen}
@@ -41,22 +40,19 @@ module _ {S : Type 0} (v : Service S) where
   abbrev pub kept_new : Held S
   kept_new = record { whole = whole_new; service = v.new }
 
--- a segment came at this time, and at each of these
-abbrev pub IsTimeOf : List Entry → ℕ → Type 0
-IsTimeOf [] at = ⊥
-IsTimeOf (segment now iss s text ∷ es) at = (at ≡ now) ⊎ IsTimeOf es at
-IsTimeOf (time to ∷ es) at = IsTimeOf es at
-IsTimeOf (asks call ∷ es) at = IsTimeOf es at
-
+-- times of segments, in the order in which these came: of each as many as there may be
 abbrev pub AreTimesOf : List Entry → List ℕ → Type 0
-AreTimesOf es times = AllByRecursion (IsTimeOf es) times
+AreTimesOf [] times = times ≡ []
+AreTimesOf (segment now iss s text ∷ es) times = (n : ℕ) × (rest : List ℕ) × (times ≡ replicate n now ++ rest) × AreTimesOf es rest
+AreTimesOf (time to ∷ es) times = AreTimesOf es times
+AreTimesOf (asks call ∷ es) times = AreTimesOf es times
 
 -- that of a protocol
 abbrev pub service_of : {A : Type 0} → Protocol A → Service (Phase A)
 service_of p = record { pumps = λ w b. (pump p w b).1; after = λ w b. (pump p w b).0; new = Reads }
 
--- Who serves by a protocol offered the answers to what was taken, in order and each once, each read when a segment came. While our FIN isn't
--- wanted and another request may follow, what was taken are the requests that were answered, and nothing else
+-- Who serves by a protocol offered the answers to what was taken, in order and each once, each read when a segment came, in their order. While our
+-- FIN isn't wanted and another request may follow, what was taken are the requests that were answered, and nothing else
 pub record OffersAnswers {A : Type 0} (p : Protocol A) (es : List Entry) (h : Held (Phase A)) : Type 0 where
   pub times : List ℕ
   pub offered : all_offered h.whole ++ left_of p h.service ≡ responses p times h.whole.read

@@ -17,8 +17,9 @@ pub fn answers_are_a_pump<A>()
 {}
 
 /// Whatever came, in whatever pieces and at whatever times: what was offered since LISTEN, with what is left of the answer under way, is
-/// the answers to the requests that were taken, in order and each once, each read when a segment came. While our FIN isn't wanted, nothing
-/// was taken that has no answer, unless the answer under way is the last. More bytes and times only go on behind them.
+/// the answers to the requests that were taken, in order and each once, each read when a segment came, and in the order of these. While our
+/// FIN isn't wanted, nothing was taken that has no answer, unless the answer under way is the last. More bytes and times only go on behind
+/// them.
 pub fn answers_come_in_order<A>()
     ensures sent { (p : Protocol A) (es : List Entry) → IsProtocol p → AreEntries es
         → OffersAnswers p es (kept_serves (service_of p) es (kept_new (service_of p))) }

@@ -52,9 +52,9 @@ impl Answerer for Pages {
 }
 
 /// Whatever comes, in whatever pieces and at whatever times: what a connection's service has offered, with what is left of the answer under
-/// way, is the answers of these pages to the requests that it took, in order and each once, each at the time of a segment. While our FIN isn't
-/// wanted, it took nothing that has no answer, unless the answer under way is the last. More bytes and times only go on behind them. Behind a
-/// pump nothing waits that could go.
+/// way, is the answers of these pages to the requests that it took, in order and each once, each at the time of a segment, and in the order of
+/// these. While our FIN isn't wanted, it took nothing that has no answer, unless the answer under way is the last. More bytes and times only go
+/// on behind them. Behind a pump nothing waits that could go.
 pub fn pages_answer_what_came()
     ensures sent { (pages : List Page) (es : List Entry) → AreEntries es
         → OffersAnswers (site pages) es (kept_serves (service_of (site pages)) es (kept_new (service_of (site pages)))) }
