@@ -8,3 +8,4 @@ pub mod NumberLemmas
 pub mod ChallengeLemmas
 pub mod ForgettingLemmas
 pub mod ShorteningLemmas
+pub mod BesideLemmas

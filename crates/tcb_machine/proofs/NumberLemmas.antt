@@ -64,7 +64,7 @@ left-then (over c) f h g = h
 left-then (go c) f h g = h
 left-then (on c) f h g = g c refl h
 
-listen-num : (c : Block) → Num (to_listen c)
+pub listen-num : (c : Block) → Num (to_listen c)
 unfolding to_listen
 listen-num c = record { una_is = λ e. absurd (false≢true e); before = λ e. absurd (false≢true e); small = omega arith; asked = λ e. absurd (false≢true e); last = λ e. absurd (false≢true e); held = omega arith; low = omega arith; high = omega arith }
 

@@ -14,3 +14,4 @@ pub mod Numbering
 pub mod Challenges
 pub mod Forgetting
 pub mod Shortening
+pub mod Beside

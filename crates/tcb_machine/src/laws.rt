@@ -3,6 +3,7 @@
 ghost use Rattle.std.specs.Prelude.{false, ◌≡◌, ℕ, ◌+◌, ◌<◌, ◌≤◌, List};
 ghost use Rattle.byte_queues.specs.ReceiveQueue.{next_of};
 ghost use Rattle.segment_codec.specs.declared.packet.Seg.{Seg};
+ghost use Rattle.tcb_machine.specs.Beside.{AbortingKeeps, ProbingKeeps, ResendingKeeps, RetimingKeeps, ShowingKeeps};
 ghost use Rattle.tcb_machine.specs.BlockState.{Block, new_block, offered};
 ghost use Rattle.tcb_machine.specs.CallAnswers.{tcp_call};
 ghost use Rattle.tcb_machine.specs.Challenges.{ChallengeIsAlone};
@@ -114,4 +115,13 @@ pub fn shortening_lengthens_no_segment()
     ensures valid { ShorteningKeepsValid }
     ensures numbers { ShorteningKeepsNumbers }
     ensures room { ShorteningAddsNothing }
+{}
+
+/// What a server beside a block sets and sends leaves a block of which all holds that holds of every block.
+pub fn a_server_beside_keeps_a_block()
+    ensures retimed { RetimingKeeps }
+    ensures shown { ShowingKeeps }
+    ensures resent { ResendingKeeps }
+    ensures probed { ProbingKeeps }
+    ensures aborted { AbortingKeeps }
 {}

@@ -4,7 +4,7 @@
 //! rule by which text, FIN and acknowledgements go out, `timers` the deadlines, and `calls` what programs and services do.
 
 ghost use Rattle.std.specs.Prelude.{false, ◌≡◌, ◌+◌, ◌-◌, ◌*◌, ◌<◌, ◌≤◌, length, None, Some, slice_get, All, IsTrue, ◌↔◌, []};
-ghost use Rattle.tcb_machine.specs.Limits.{least_mss, most_mss, most_retransmissions, most_shift, whole_space};
+ghost use Rattle.tcb_machine.specs.Limits.{least_mss, longest_timeout, most_mss, most_retransmissions, most_shift, whole_space};
 ghost use Rattle.tcb_machine.specs.Room.{HasRoom};
 
 mod arrival;
@@ -173,6 +173,28 @@ impl Tcb {
         self.agreed.mss
     }
 
+    /// SND.WND, in bytes (RFC 9293, 3.3.1): the peer's last window, with its scale, or the one that was shown in its place.
+    pub fn snd_wnd(&self) -> u32
+        ensures { result ≡ self.now.wnd }
+    {
+        self.wnd
+    }
+
+    /// RTO, in microseconds: how long the retransmission timer runs (RFC 6298).
+    pub fn rto(&self) -> u64
+        ensures is { result ≡ self.now.rto }
+        ensures most { result ≤ longest_timeout }
+    {
+        self.rto
+    }
+
+    /// When the retransmission timer expires, in microseconds, which may be before the clock, or `None` where it doesn't run (RFC 6298, 5).
+    pub fn retransmit_at(&self) -> Option<u64>
+        ensures { result ≡ self.now.retransmit_at }
+    {
+        self.retransmit_at
+    }
+
     /// How many retransmissions and probes were made since the block was new or they were forgotten. Where 64 were, the next
     /// deadline takes the block to LISTEN.
     pub fn retransmissions(&self) -> u32
@@ -232,9 +254,9 @@ impl Tcb {
         replace(&mut self.replies, Vec::new(alloc))
     }
 
-    /// RCV.NXT.
+    /// RCV.NXT, a sequence number: the next one that is awaited (RFC 9293, 3.3.1). In LISTEN, where none is, it is 1.
     #[tactic(auto, unfolding(crate::specs::BlockState::rcv_nxt))]
-    fn rcv_nxt(&self) -> u32
+    pub fn rcv_nxt(&self) -> u32
         ensures { result ≡ rcv_nxt self.now }
     {
         let low = (self.recv.next() & 0xffff_ffff) as u32;
@@ -244,9 +266,9 @@ impl Tcb {
             .wrapping_add(u32::from(is_consumed(self.state)))
     }
 
-    /// RCV.WND.
+    /// RCV.WND, in bytes (RFC 9293, 3.3.1).
     #[tactic(auto, unfolding(crate::specs::BlockState::rcv_wnd))]
-    fn rcv_wnd(&self) -> u32
+    pub fn rcv_wnd(&self) -> u32
         ensures is { result ≡ rcv_wnd self.now }
         ensures small { result ≤ whole_space }
         ensures fits { result ≤ self.now.recv.edge - self.now.recv.taken }
@@ -263,17 +285,17 @@ impl Tcb {
         self.iss.wrapping_add(1).wrapping_add(low)
     }
 
-    /// How many bytes were sent and aren't acknowledged.
-    fn in_flight(&self) -> u32
+    /// How many bytes of text were sent and aren't acknowledged.
+    pub fn in_flight(&self) -> u32
         ensures flight { result ≡ in_flight self.now }
         ensures held { result ≤ length self.now.out }
     {
         (self.sent - self.acked) as u32
     }
 
-    /// How many bytes weren't sent yet.
+    /// How many bytes of text were offered and aren't sent yet.
     #[tactic(auto, unfolding(crate::specs::BlockState::unsent))]
-    fn unsent(&self) -> u32
+    pub fn unsent(&self) -> u32
         ensures { result ≡ length (unsent self.now) }
     {
         self.send.held() - self.in_flight()

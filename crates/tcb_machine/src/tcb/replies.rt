@@ -29,7 +29,7 @@ impl Tcb {
         }
     }
 
-    fn send(&mut self, reply: Reply) -> Result<(), AllocError>
+    pub(super) fn send(&mut self, reply: Reply) -> Result<(), AllocError>
         requires { IsOurs reply }
         ensures { OnOk result (self.new ≡ sends reply self.old) }
     {
