@@ -44,7 +44,7 @@
 
 enum { HEAD = 16, LONGEST = 65535, GATHERED = 1 << 16, TICK = 20000, MOST_STEP = 100000 };
 enum { ICMP_PROTOCOL = 1, TCP_PROTOCOL = 6, UDP_PROTOCOL = 17, PROTOCOL = 9 };
-enum { LEAST_PART = 8, TARGET_PORT = 2, SYSTAT = 11, UNREACHABLE = 3, TOO_LONG = 4 };
+enum { LEAST_PART = 8, TARGET_PORT = 2, SYSTAT = 11, UNREACHABLE = 3, TIME_EXCEEDED = 11, PARAMETER_PROBLEM = 12 };
 enum { IP_LENGTH = 2, IP_SUM = 10, ENDS = 12, TCP = 20, SEQ = 24, ACK = 28, FLAGS = 33, WINDOW = 34, TCP_SUM = 36, TEXT = 40, PSH_FLAG = 8, ACK_FLAG = 16 };
 
 /* One direction of a queue, in a line of the processor's cache that no other thread writes. */
@@ -185,14 +185,14 @@ static void fill_sum(unsigned char *datagram, size_t length) {
     if (head.flags & VIRTIO_NET_HDR_F_NEEDS_CSUM && at + 2 <= length) put_sum(datagram + at, ~sum_of(datagram + from, length - from, 0));
 }
 
-/* Whether a datagram is for the whole server, and not for one connection: UDP to the port of systat, or a router's word that a segment was too long. */
+/* Whether a datagram is for the whole server, and not for one connection: UDP to the port of systat, or a router's word that a segment didn't arrive. */
 static int for_all_rings(const unsigned char *datagram, size_t length) {
     if (length < TCP || datagram[0] >> 4 != 4) return 0;
     size_t header = 4 * (datagram[0] & 15);
     const unsigned char *part = datagram + header;
     if (length < header + LEAST_PART) return 0;
     if (datagram[PROTOCOL] == UDP_PROTOCOL) return part[TARGET_PORT] == SYSTAT >> 8 && part[TARGET_PORT + 1] == (SYSTAT & 0xff);
-    return datagram[PROTOCOL] == ICMP_PROTOCOL && part[0] == UNREACHABLE && part[1] == TOO_LONG;
+    return datagram[PROTOCOL] == ICMP_PROTOCOL && (part[0] == UNREACHABLE || part[0] == TIME_EXCEEDED || part[0] == PARAMETER_PROBLEM);
 }
 
 /* Posts a datagram to all other queues. Nobody holds a box's lock for longer than it takes to copy what is in it. */

@@ -41,24 +41,26 @@ use streams::tell_streams;
 const TOLD: &str = "link cut count records";
 
 /// The fields of packets.
-const PACKETS: [(&str, Form); 8] = [
+const PACKETS: [(&str, Form); 9] = [
     ("packets", Form::Packets),
     ("places", Form::Places),
     ("datagrams", Form::Datagrams),
     ("pings", Form::Pings),
     ("too_long", Form::TooLong),
+    ("unreachable", Form::Unreachable),
     ("replies", Form::Replies),
     ("texts", Form::Texts),
     ("refused", Form::Refused),
 ];
 
 /// The fields of a row of what is read.
-const FIELDS: [&str; 17] = [
+const FIELDS: [&str; 18] = [
     "packets",
     "places",
     "datagrams",
     "pings",
     "too_long",
+    "unreachable",
     "replies",
     "texts",
     "refused",

@@ -7,6 +7,7 @@
 //! | `datagrams` | LINK HEX | the UDP datagram |
 //! | `pings` | HEX | the echo request, and the reply's bytes |
 //! | `too_long` | HEX | what a router says of a segment that was too long |
+//! | `unreachable` | HEX | what a router says of a segment that didn't arrive |
 //! | `replies` | FLAGS SEQ ACK WINDOW, maybe `mss=N` and `scale=N`, maybe HEX of a text | its bytes |
 //! | `texts` | HEX | the bytes of a UDP datagram with this text |
 //! | `refused` | FLAGS SEQ ACK LENGTH | the reset that answers a segment with so long a text |
@@ -15,7 +16,7 @@ ghost use Rattle.std.specs.Prelude.{◌≤◌, IfOk, length};
 
 use crate::ends::{tell_address, tell_end};
 use case_rows::{RowFault, RowWords, Wrong, add_bytes, add_flags, add_text, spelled, told_at};
-use icmp_codec::{ping_in, pong, too_long_in};
+use icmp_codec::{Cause, ping_in, pong, too_long_in, unreachable_in};
 use segment_codec::{MOST_TEXT, Options, Packet, Reply, Seg, decode, encode, ip_place, refusal};
 use sq_base::{Addr, Link, Octets, Tuple};
 use std::alloc::{AllocError, Global};
@@ -30,6 +31,7 @@ pub enum Form {
     Datagrams,
     Pings,
     TooLong,
+    Unreachable,
     Replies,
     Texts,
     Refused,
@@ -185,6 +187,34 @@ fn too_long(out: &mut String, alloc: Global, line: &str) -> Result<(), Wrong> {
     Ok(())
 }
 
+/// The word for why a segment didn't arrive.
+fn cause_word(cause: Cause) -> &'static str {
+    match cause {
+        Cause::Away => "away",
+        Cause::Port => "port",
+        Cause::Prohibited => "prohibited",
+        Cause::TimeExceeded => "time exceeded",
+        Cause::Parameter => "parameter",
+    }
+}
+
+/// Tells what a router says of a segment that didn't arrive: why, who says it to whom, the segment's client and server, and its number.
+fn unreachable(out: &mut String, alloc: Global, line: &str) -> Result<(), Wrong> {
+    let body = body_of(alloc, line)?;
+    match unreachable_in(body.as_slice()) {
+        Some(told) => {
+            out.push_str(cause_word(told.cause))?;
+            tell_address(out, told.src)?;
+            tell_address(out, told.dst)?;
+            tell_end(out, told.ends.client, told.ends.client_port)?;
+            tell_end(out, told.ends.server, told.ends.server_port)?;
+            writeln!(out, " seq {}", told.seq)?;
+        }
+        None => out.push_str("none\n")?,
+    }
+    Ok(())
+}
+
 /// A word sets an option of a reply. Says whether it was one.
 fn set(reply: &mut Reply, word: &str) -> Result<bool, Wrong> {
     match word.split_once('=') {
@@ -265,6 +295,7 @@ fn tell(form: Form, out: &mut String, alloc: Global, line: &str) -> Result<(), W
         Form::Datagrams => datagram(out, alloc, line),
         Form::Pings => ping(out, alloc, line),
         Form::TooLong => too_long(out, alloc, line),
+        Form::Unreachable => unreachable(out, alloc, line),
         Form::Replies => reply(out, alloc, line),
         Form::Texts => text(out, alloc, line),
         Form::Refused => refused(out, alloc, line),

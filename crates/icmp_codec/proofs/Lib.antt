@@ -1,3 +1,4 @@
 pub mod RequestLemmas
 pub mod AnsweredLemmas
 pub mod TooLongLemmas
+pub mod UnreachableLemmas

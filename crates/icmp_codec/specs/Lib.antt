@@ -3,3 +3,4 @@ pub mod EchoRequest
 pub mod EchoReply
 pub mod Answered
 pub mod TooLong
+pub mod Unreachable

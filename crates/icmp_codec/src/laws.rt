@@ -8,6 +8,7 @@ ghost use Rattle.icmp_codec.specs.Answered.{Fits, IsReadFrom, ReadsAsReply, IsNo
 ghost use Rattle.icmp_codec.specs.EchoRequest.{PingOf, ping_in};
 ghost use Rattle.icmp_codec.specs.EchoReply.{pong_bytes};
 ghost use Rattle.icmp_codec.specs.TooLong.{IsNoPing, IsNoSegment};
+ghost use Rattle.icmp_codec.specs.Unreachable.{IsNotPing, IsNotSegment, IsNotTooLong};
 
 /// A request that was read from bytes has numbers that fit their fields, and its reply is as long as its datagram was.
 pub fn a_request_fits()
@@ -33,4 +34,12 @@ pub fn a_reply_is_no_request()
 pub fn a_report_is_apart()
     ensures request { IsNoPing }
     ensures segment { IsNoSegment }
+{}
+
+/// What a router says of a datagram that didn't arrive is none of one that was too long, no echo request, and another protocol than TCP to
+/// `segment_codec`'s reader.
+pub fn an_unreachable_is_apart()
+    ensures long { IsNotTooLong }
+    ensures request { IsNotPing }
+    ensures segment { IsNotSegment }
 {}

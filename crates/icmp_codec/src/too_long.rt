@@ -10,20 +10,20 @@ use segment_codec::places::{long_at, word_at};
 use sq_base::{Addr, Tuple};
 
 /// The type of a message that a datagram didn't arrive.
-const UNREACHABLE: u8 = 3;
+pub(crate) const UNREACHABLE: u8 = 3;
 
 /// Its code where that datagram may not be fragmented, and has to be.
-const FRAGMENTATION_NEEDED: u8 = 4;
+pub(crate) const FRAGMENTATION_NEEDED: u8 = 4;
 
-const TCP: u8 = 6;
+pub(crate) const TCP: u8 = 6;
 
 /// Where the datagram that was dropped is quoted, and what stands behind its header.
-const QUOTE: usize = 8;
+pub(crate) const QUOTE: usize = 8;
 
-const QUOTED_TEXT: usize = QUOTE + IP_HEADER;
+pub(crate) const QUOTED_TEXT: usize = QUOTE + IP_HEADER;
 
 /// The least bytes of such a message.
-const LEAST_MESSAGE: usize = QUOTED_TEXT + 8;
+pub(crate) const LEAST_MESSAGE: usize = QUOTED_TEXT + 8;
 
 /// What a router says of a segment that it dropped, since the next path takes no datagram of its length (RFC 1191).
 #[derive(Clone, Copy, Debug, Drop, PartialEq, Eq)]
@@ -79,7 +79,7 @@ fn is_too_long(message: &[u8]) -> bool
 }
 
 /// The two ends of the segment that is quoted.
-fn quoted_ends(message: &[u8]) -> Tuple
+pub(crate) fn quoted_ends(message: &[u8]) -> Tuple
     requires { quote_at + quoted_size ≤ length message.now }
     ensures { result ≡ quoted_ends message.now }
 {

@@ -6,7 +6,8 @@ use Rattle.std.proofs.lemmas.Option.{slice_get-map}
 use Rattle.sq_base.specs.declared.kinds.Tuple.{Tuple}
 use Rattle.stream_stays.specs.declared.place.Stays.{Stays}
 use Rattle.live_server.specs.Acts.{no_conn}
-use Rattle.live_server.specs.Facts.{facts_of, is_waiting_by}
+use Rattle.live_server.specs.Facts.{facts_of, is_waiting_by, reported_by}
+use Rattle.live_server.specs.Unreached.{reported}
 use Rattle.live_server.specs.Leaving.{peer_of}
 use Rattle.live_server.specs.Serving.{is_waiting}
 use Rattle.live_server.specs.Table.{conn_at}
@@ -32,6 +33,9 @@ facts_at st es i e at seated =
 
 pub waiting_at : (n : ℕ) (st : Stays ChatItem ChatOf) (es : List (Tuple × Seat)) (i : ℕ) (e : Tuple × Seat) → slice_get es i ≡ Some e → AllSeated st es → is_waiting_by n e.1.facts ≡ is_waiting n (conn_at i (conns_of st es))
 waiting_at n st es i e at seated = ap (is_waiting_by n) (facts_at st es i e at seated)
+
+pub reported_there : (seq : ℕ) (st : Stays ChatItem ChatOf) (es : List (Tuple × Seat)) (i : ℕ) (e : Tuple × Seat) → slice_get es i ≡ Some e → AllSeated st es → reported_by seq e.1.facts ≡ reported seq (conn_at i (conns_of st es))
+reported_there seq st es i e at seated = ap (reported_by seq) (facts_at st es i e at seated)
 
 pub peer_there : (st : Stays ChatItem ChatOf) (es : List (Tuple × Seat)) (i : ℕ) (e : Tuple × Seat) → slice_get es i ≡ Some e → AllSeated st es
     → Some (record { address = e.0.client; heard = e.1.facts.heard }) ≡ option_map peer_of (slice_get (conns_of st es) i)

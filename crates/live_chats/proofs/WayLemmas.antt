@@ -18,6 +18,11 @@ use Rattle.udp_codec.specs.declared.datagram.Udp.{Udp}
 use Rattle.icmp_codec.specs.EchoRequest.{PingOf, ping_in}
 use Rattle.icmp_codec.specs.TooLong.{too_long_in}
 use Rattle.icmp_codec.specs.declared.too_long.TooLong.{TooLong}
+use Rattle.icmp_codec.specs.Unreachable.{unreachable_in}
+use Rattle.icmp_codec.specs.declared.unreachable.Unreachable.{Unreachable}
+use Rattle.live_server.specs.Unreached.{reported}
+use Rattle.live_server.specs.declared.unreached.Reported.{Reported}
+use Rattle.live_server.specs.declared.unreached.Reported.TheVariants.{HalfOpen, Open, Stray}
 use Rattle.live_server.specs.Acts.{emptied, is_over, judged, reached, sent_by, closed, no_measures}
 use Rattle.live_server.specs.Addresses.{is_for_us, is_to_us}
 use Rattle.live_server.specs.Counting.{more}
@@ -25,7 +30,7 @@ use Rattle.live_server.specs.Initial.{number_for}
 use Rattle.live_server.specs.Isolation.{conn_of, IsTable}
 use Rattle.live_server.specs.PathMtu.{path_told, shortens, text_in_mtu}
 use Rattle.live_server.specs.Services.{is_served_at}
-use Rattle.live_server.specs.Serving.{Outcome, ServerOf, addressed, becomes, comes, counting_path, echoes, fits, gives_way, goes_on, has_place, heeded, heeded_text, heeds, holding, is_echoed, is_waiting, judging, limited, makes_place, noting, numbered, on_datagram, on_other, on_packet, on_segment, on_too_long, opens as opening, overfull, passes_over, refused, sends_nothing, sends_of, served, shortens_at, takes_free, takes_place, tells_counts, time_to, turns_away, yielding, yields, yields_at, admits, obeys, on_protocol, refuses}
+use Rattle.live_server.specs.Serving.{Outcome, ServerOf, addressed, becomes, comes, counting_path, echoes, fits, gives_way, goes_on, has_place, heeded, heeded_text, heeds, holding, is_echoed, is_waiting, judging, limited, makes_place, noting, numbered, on_datagram, on_other, on_packet, on_segment, on_too_long, opens as opening, overfull, passes_over, refused, sends_nothing, sends_of, served, shortens_at, takes_free, takes_place, tells_counts, time_to, turns_away, yielding, yields, yields_at, admits, obeys, caused, on_protocol, on_report, on_unreachable, refuses, unreached, unreached_at}
 use Rattle.live_server.specs.Orders.{order_in}
 use Rattle.live_server.specs.Table.{conn_at, place_of, tuple_eq, IsNew}
 use Rattle.live_server.specs.declared.conn.Conn.{Conn}
@@ -34,7 +39,7 @@ use Rattle.live_server.specs.declared.conn.Met.TheVariants.{Gone, Judged as judg
 use Rattle.live_server.proofs.TableLemmas.{distinct_appended, distinct_replaced, distinct_without, first_at, length_replaced, length_without, look_appended, look_replaced, look_without, new_from_place, new_without, within_at}
 use Rattle.live_server.proofs.PlaceLemmas.{conn_looked}
 use Rattle.live_chats.specs.Chats.{Item, Step, becoming, fresh, leaves, opens, path, path_said, said, segment, segment_said, sends, tells, time, time_said}
-use Rattle.live_chats.specs.Ways.{way_addressed, way_comes, way_datagram, way_goes_on, way_heeds, way_opens, way_other, way_packet, way_segment, way_takes, way_time_to, way_too_long, way_yielding, way_yields, way_admits, way_protocol}
+use Rattle.live_chats.specs.Ways.{way_addressed, way_comes, way_datagram, way_goes_on, way_heeds, way_opens, way_other, way_packet, way_segment, way_takes, way_time_to, way_too_long, way_yielding, way_yields, way_admits, way_protocol, way_report, way_unreachable, way_unreached}
 use Rattle.live_chats.proofs.RunLemmas.{IsRight, chosen_right, moved_right, nothing_right, quiet_right, sent_shows, then_right, told_shows}
 
 -- ---- the connection at a place becomes another one
@@ -259,6 +264,30 @@ too_long_right x sv table =
     by None at = quiet_counts sv _ refl refl table
     by (Some i) at = shortens_right x sv i at table
 
+unreached_right : (x : Unreachable) (sv : ServerOf) (i : ℕ) → place_of x.ends sv.conns ≡ Some i → IsTable sv → (r : Reported)
+    → IsRight sv (way_unreached r x.ends) (sends_nothing (unreached r x.cause i sv))
+unreached_right x sv i at table Stray = quiet_counts sv (passes_over sv).server refl refl table
+unreached_right x sv i at table Open = quiet_counts sv (caused x.cause sv) refl refl table
+unreached_right x sv i at table HalfOpen =
+    let left = gives_way_right x.ends sv i at table in
+    let kept : IsTable (gives_way i sv) = left.table in
+    record { shows = left.shows; setting = refl; table = record { once = kept.once; bounded = kept.bounded } }
+
+unreachable_right : (x : Unreachable) (sv : ServerOf) → IsTable sv → IsRight sv (way_unreachable x sv) (sends_nothing (on_unreachable x sv))
+unfolding way_unreachable on_unreachable unreached_at
+unreachable_right x sv table = here (is_to_us sv.setting x.src x.dst) (place_of x.ends sv.conns) refl
+  where
+    ways_at : Option ℕ → List Step
+    ways_at r = option_map_or (λ (place : ℕ). way_unreached (reported x.seq (conn_at place sv.conns)) x.ends) r []
+
+    made_at : Option ℕ → ServerOf
+    made_at r = option_map_or (λ (place : ℕ). unreached_at x place sv) r (passes_over sv).server
+
+    here : (b : Bool) (r : Option ℕ) → place_of x.ends sv.conns ≡ r → IsRight sv (cond b (ways_at r) []) (sends_nothing (cond b (made_at r) (passes_over sv).server))
+    here false r at = quiet_counts sv (passes_over sv).server refl refl table
+    here true None at = quiet_counts sv (passes_over sv).server refl refl table
+    here true (Some i) at = unreached_right x sv i at table (reported x.seq (conn_at i sv.conns))
+
 other_right : (now : ℕ) (p : Option PingOf) (sv : ServerOf) → IsTable sv → IsRight sv (way_other now p sv) (on_other now p sv)
 unfolding way_other on_other
 other_right now None sv table = quiet_counts sv _ refl refl table
@@ -295,14 +324,23 @@ protocol_right now body sv table = by (order_in sv.setting body)
     by None = other_right now (ping_in body) sv table
     by (Some u) = obeyed_right now u (ordered_text u body) sv table
 
+report_right : (now : ℕ) (body : List ℕ) (sv : ServerOf) → IsTable sv → IsRight sv (way_report now body sv) (on_report now body sv)
+unfolding way_report on_report
+report_right now body sv table = by (unreachable_in body)
+  where
+    by : (r : Option Unreachable)
+        → IsRight sv (option_map_or (λ (x : Unreachable). way_unreachable x sv) r (way_protocol now body sv)) (option_map_or (λ (x : Unreachable). sends_nothing (on_unreachable x sv)) r (on_protocol now body sv))
+    by None = protocol_right now body sv table
+    by (Some x) = unreachable_right x sv table
+
 pub packet_right : (now : ℕ) (body : List ℕ) (p : Packet) (sv : ServerOf) → IsTable sv → IsRight sv (way_packet now body p sv) (on_packet now body p sv)
 unfolding way_packet on_packet
 packet_right now body (packet.Segment s) sv table = addressed_right now s (text_in s body) sv table
 packet_right now body packet.Other sv table = either (too_long_in body)
   where
     either : (r : Option TooLong)
-        → IsRight sv (option_map_or (λ x. way_too_long x sv) r (way_protocol now body sv)) (option_map_or (λ x. on_too_long x sv) r (on_protocol now body sv))
-    either None = protocol_right now body sv table
+        → IsRight sv (option_map_or (λ x. way_too_long x sv) r (way_report now body sv)) (option_map_or (λ x. on_too_long x sv) r (on_report now body sv))
+    either None = report_right now body sv table
     either (Some x) = too_long_right x sv table
 packet_right now body packet.Fragment sv table = quiet_counts sv _ refl refl table
 packet_right now body packet.Cut sv table = quiet_counts sv _ refl refl table

@@ -12,6 +12,11 @@ use Rattle.sq_base.specs.declared.kinds.Tuple.{Tuple}
 use Rattle.icmp_codec.specs.EchoRequest.{PingOf, ping_in}
 use Rattle.icmp_codec.specs.TooLong.{too_long_in}
 use Rattle.icmp_codec.specs.declared.too_long.TooLong.{TooLong}
+use Rattle.icmp_codec.specs.Unreachable.{unreachable_in}
+use Rattle.icmp_codec.specs.declared.unreachable.Unreachable.{Unreachable}
+use Rattle.live_server.specs.Unreached.{reported}
+use Rattle.live_server.specs.declared.unreached.Reported.{Reported}
+use Rattle.live_server.specs.declared.unreached.Reported.TheVariants.{HalfOpen, Open, Stray}
 use Rattle.udp_codec.specs.ReadAgain.{text_in as ordered_text}
 use Rattle.live_server.specs.Acts.{is_over, sent_by, no_measures}
 use Rattle.live_server.specs.Addresses.{is_for_us, is_to_us}
@@ -75,6 +80,17 @@ unfoldable pub way_too_long : TooLong → ServerOf → List Step
 way_too_long x sv =
     if is_to_us sv.setting x.src x.dst then option_map_or (λ place. tells x.ends (path x.seq (text_in_mtu x.mtu)) ∷ []) (place_of x.ends sv.conns) [] else []
 
+-- where a segment didn't arrive, its connection leaves if it is half open
+abbrev pub way_unreached : Reported → Tuple → List Step
+way_unreached Stray t = []
+way_unreached Open t = []
+way_unreached HalfOpen t = tells t leaves ∷ []
+
+unfoldable pub way_unreachable : Unreachable → ServerOf → List Step
+way_unreachable x sv =
+    if is_to_us sv.setting x.src x.dst then option_map_or (λ place. way_unreached (reported x.seq (conn_at place sv.conns)) x.ends) (place_of x.ends sv.conns) []
+    else []
+
 unfoldable pub way_other : ℕ → Option PingOf → ServerOf → List Step
 way_other now None sv = []
 way_other now (Some p) sv = if is_echoed p sv then sends (echoes now p sv).sent ∷ [] else []
@@ -82,9 +98,12 @@ way_other now (Some p) sv = if is_echoed p sv then sends (echoes now p sv).sent 
 unfoldable pub way_protocol : ℕ → List ℕ → ServerOf → List Step
 way_protocol now body sv = option_map_or (λ u. sends (obeys now u (ordered_text u body) sv).sent ∷ []) (order_in sv.setting body) (way_other now (ping_in body) sv)
 
+unfoldable pub way_report : ℕ → List ℕ → ServerOf → List Step
+way_report now body sv = option_map_or (λ x. way_unreachable x sv) (unreachable_in body) (way_protocol now body sv)
+
 unfoldable pub way_packet : ℕ → List ℕ → Packet → ServerOf → List Step
 way_packet now body (packet.Segment s) sv = way_addressed now s (text_in s body) sv
-way_packet now body packet.Other sv = option_map_or (λ x. way_too_long x sv) (too_long_in body) (way_protocol now body sv)
+way_packet now body packet.Other sv = option_map_or (λ x. way_too_long x sv) (too_long_in body) (way_report now body sv)
 way_packet now body packet.Fragment sv = []
 way_packet now body packet.Cut sv = []
 way_packet now body (packet.Malformed why) sv = []

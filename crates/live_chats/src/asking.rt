@@ -5,12 +5,13 @@ ghost use Rattle.stream_stays.specs.declared.place.Stays.{Stays};
 ghost use Rattle.live_server.specs.Leaving.{peer_of};
 ghost use Rattle.live_server.specs.Serving.{is_waiting};
 ghost use Rattle.live_server.specs.Table.{conn_at, held_by, place_of};
+ghost use Rattle.live_server.specs.Unreached.{reported};
 ghost use Rattle.live_chats.specs.Hearing.{ChatOf};
 ghost use Rattle.live_chats.specs.Seating.{AllSeated, conns_of};
 ghost use Rattle.live_chats.specs.declared.item.ChatItem.{ChatItem};
 
 use crate::seats::{Table, seat_at};
-use live_server::Peer;
+use live_server::{Peer, Reported};
 use sq_base::Tuple;
 
 /// How many connections there are.
@@ -35,6 +36,17 @@ pub(crate) fn is_waiting_at(seats: &Table, place: usize, number: u64) -> bool
         Some((_, seat)) => seat.facts.is_waiting(number),
         None => false,
     }
+}
+
+/// What a message is to the connection at a place that the segment with a number didn't arrive.
+pub(crate) fn reported_at(seats: &Table, place: usize, seq: u32) -> Reported
+    requires { place < length seats.now.entries }
+    ensures { (st : Stays ChatItem ChatOf) → AllSeated st seats.now.entries → result ≡ reported seq (conn_at place (conns_of st seats.now.entries)) }
+{
+    let Some((_, seat)) = seats.get_index(place) else {
+        unreachable!()
+    };
+    seat.facts.reported(seq)
 }
 
 /// Whose the connection at a place is, and when something came from it last.

@@ -11,7 +11,7 @@ use crate::reaching::reach_each;
 use crate::seats::{Table, leave_all, meet_at, seat_new, vacate};
 use crate::{asking, leaving};
 use indexmap::IndexMap;
-use live_server::{Conn, ConnTable, Datagram, Measures, Met, Peer, Setting};
+use live_server::{Conn, ConnTable, Datagram, Measures, Met, Peer, Reported, Setting};
 use perimeter_core::Resident;
 use placed_parts::Places;
 use segment_codec::Seg;
@@ -147,6 +147,10 @@ impl<'q, H: Wait + Drop, W: Wait, N: Closes> ConnTable
 
     fn is_waiting_at(&self, place: usize, number: u64) -> bool {
         asking::is_waiting_at(&self.seats, place, number)
+    }
+
+    fn reported_at(&self, place: usize, seq: u32) -> Reported {
+        asking::reported_at(&self.seats, place, seq)
     }
 
     fn peer_at(&self, place: usize) -> Peer {

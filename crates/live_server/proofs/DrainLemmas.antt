@@ -6,6 +6,10 @@ use Rattle.std.proofs.lemmas.Option.{none-some, same_Some}
 use Rattle.icmp_codec.specs.EchoRequest.{PingOf, ping_in}
 use Rattle.icmp_codec.specs.TooLong.{too_long_in}
 use Rattle.icmp_codec.specs.declared.too_long.TooLong.{TooLong}
+use Rattle.icmp_codec.specs.Unreachable.{unreachable_in}
+use Rattle.icmp_codec.specs.declared.unreachable.Cause.{Cause}
+use Rattle.icmp_codec.specs.declared.unreachable.Cause.TheVariants.{Away, Parameter, Port, Prohibited, TimeExceeded}
+use Rattle.icmp_codec.specs.declared.unreachable.Unreachable.{Unreachable}
 use Rattle.segment_codec.specs.ControlBits.{ack}
 use Rattle.segment_codec.specs.Packet.{packet_in}
 use Rattle.segment_codec.specs.Refusal.{tuple_of}
@@ -32,9 +36,12 @@ use Rattle.live_server.specs.Draining.{EachCloses, NoneOpens, OpensNone}
 use Rattle.live_server.specs.Orders.{order_in}
 use Rattle.live_server.specs.PathMtu.{shortens, text_in_mtu}
 use Rattle.live_server.specs.Services.{is_served_at}
-use Rattle.live_server.specs.Serving.{ServerOf, addressed, admits, becomes, comes, counting_path, echoes, fits, goes_on, heeded, heeded_text, heeds, holding, is_echoed, judging, limited, measures_of, noting, obeys, on_datagram, on_other, on_packet, on_protocol, on_segment, on_too_long, opens, overfull, passes_over, refuses, sends_nothing, served, shortens_at, tells_counts, time_to}
+use Rattle.live_server.specs.Unreached.{reported}
+use Rattle.live_server.specs.Serving.{ServerOf, addressed, admits, becomes, caused, comes, counting_path, echoes, fits, goes_on, heeded, heeded_text, heeds, holding, is_echoed, judging, limited, measures_of, noting, obeys, on_datagram, on_other, on_packet, on_protocol, on_report, on_segment, on_too_long, on_unreachable, opens, overfull, passes_over, refuses, sends_nothing, served, shortens_at, tells_counts, time_to, unreached, unreached_at}
 use Rattle.live_server.specs.Table.{all_reached, conn_at, place_of, tuple_eq}
 use Rattle.live_server.specs.declared.conn.Conn.{Conn}
+use Rattle.live_server.specs.declared.unreached.Reported.{Reported}
+use Rattle.live_server.specs.declared.unreached.Reported.TheVariants.{HalfOpen, Open, Stray}
 use Rattle.live_server.specs.declared.conn.Judged.{Judged}
 use Rattle.live_server.specs.declared.conn.Judged.TheVariants.{Challenged, Late, Taken, Unanswered}
 use Rattle.live_server.specs.declared.conn.Met.{Met}
@@ -176,13 +183,49 @@ too_long_none x sv e = by (is_to_us sv.setting x.src x.dst)
     by true = here (place_of x.ends sv.conns) refl
     by false = quiet sv (passes_over sv).server e refl refl refl
 
+unreached_none : (x : Unreachable) (sv : ServerOf) → sv.draining ≡ true → OpensNone sv (on_unreachable x sv)
+unfolding on_unreachable unreached_at
+unreached_none x sv e = by (is_to_us sv.setting x.src x.dst)
+  where
+    counted : (cause : Cause) → OpensNone sv (caused cause sv)
+    counted Away = quiet sv (caused Away sv) e refl refl refl
+    counted Port = quiet sv (caused Port sv) e refl refl refl
+    counted Prohibited = quiet sv (caused Prohibited sv) e refl refl refl
+    counted TimeExceeded = quiet sv (caused TimeExceeded sv) e refl refl refl
+    counted Parameter = quiet sv (caused Parameter sv) e refl refl refl
+
+    met : (r : Reported) (i : ℕ) → place_of x.ends sv.conns ≡ Some i → OpensNone sv (unreached r x.cause i sv)
+    met Stray i at = quiet sv (passes_over sv).server e refl refl refl
+    met Open i at = counted x.cause
+    met HalfOpen i at = record {
+      opened = (counted x.cause).opened;
+      fewer = omega (arith, length_without sv.conns i (within_at x.ends sv.conns i at));
+      drains = e;
+    }
+
+    here : (r : Option ℕ) → place_of x.ends sv.conns ≡ r → OpensNone sv (option_map_or (λ place. unreached_at x place sv) r (passes_over sv).server)
+    here None at = quiet sv (passes_over sv).server e refl refl refl
+    here (Some i) at = met (reported x.seq (conn_at i sv.conns)) i at
+
+    by : (b : Bool) → OpensNone sv (cond b (option_map_or (λ place. unreached_at x place sv) (place_of x.ends sv.conns) (passes_over sv).server) (passes_over sv).server)
+    by true = here (place_of x.ends sv.conns) refl
+    by false = quiet sv (passes_over sv).server e refl refl refl
+
+report_none : (now : ℕ) (body : List ℕ) (sv : ServerOf) → sv.draining ≡ true → OpensNone sv (on_report now body sv).server
+unfolding on_report
+report_none now body sv e = by (unreachable_in body)
+  where
+    by : (r : Option Unreachable) → OpensNone sv (option_map_or (λ x. sends_nothing (on_unreachable x sv)) r (on_protocol now body sv)).server
+    by None = protocol_none now body sv e
+    by (Some x) = unreached_none x sv e
+
 packet_none : (now : ℕ) (body : List ℕ) (p : Packet) (sv : ServerOf) → sv.draining ≡ true → OpensNone sv (on_packet now body p sv).server
 unfolding on_packet
 packet_none now body (packet.Segment s) sv e = addressed_none now s (text_in s body) sv e
 packet_none now body packet.Other sv e = by (too_long_in body)
   where
-    by : (r : Option TooLong) → OpensNone sv (option_map_or (λ x. on_too_long x sv) r (on_protocol now body sv)).server
-    by None = protocol_none now body sv e
+    by : (r : Option TooLong) → OpensNone sv (option_map_or (λ x. on_too_long x sv) r (on_report now body sv)).server
+    by None = report_none now body sv e
     by (Some x) = too_long_none x sv e
 packet_none now body packet.Fragment sv e = quiet sv (passes_over sv).server e refl refl refl
 packet_none now body packet.Cut sv e = quiet sv (passes_over sv).server e refl refl refl

@@ -5,6 +5,8 @@ use Rattle.std.proofs.lemmas.Slice.Eq.{bytes_eq-Decides}
 use Rattle.icmp_codec.specs.EchoRequest.{PingOf, ping_in}
 use Rattle.icmp_codec.specs.TooLong.{too_long_in}
 use Rattle.icmp_codec.specs.declared.too_long.TooLong.{TooLong}
+use Rattle.icmp_codec.specs.Unreachable.{unreachable_in}
+use Rattle.icmp_codec.specs.declared.unreachable.Unreachable.{Unreachable}
 use Rattle.segment_codec.specs.Packet.{packet_in}
 use Rattle.segment_codec.specs.Refusal.{tuple_of}
 use Rattle.segment_codec.specs.SentIsRead.{text_in}
@@ -22,9 +24,12 @@ use Rattle.live_server.specs.Draining.{HostDrains, OrdersDrain, TimeKeepsDrain}
 use Rattle.live_server.specs.Orders.{order_in}
 use Rattle.live_server.specs.PathMtu.{shortens, text_in_mtu}
 use Rattle.live_server.specs.Services.{is_served_at, service_at}
-use Rattle.live_server.specs.Serving.{ServerOf, addressed, admits, becomes, comes, counting_path, echoes, fits, gives_way, goes_on, has_place, heeded, heeded_text, heeds, holding, is_echoed, is_waiting, limited, makes_place, noting, obeys, on_datagram, on_other, on_packet, on_protocol, on_segment, on_time, on_too_long, opens, overfull, passes_over, refuses, sends_nothing, sends_of, served, shortens_at, takes_free, takes_place, tells_counts, time_to, turns_away, yielding, yields, yields_at}
+use Rattle.live_server.specs.Serving.{ServerOf, addressed, admits, becomes, comes, counting_path, echoes, fits, gives_way, goes_on, has_place, heeded, heeded_text, heeds, holding, is_echoed, is_waiting, limited, makes_place, noting, obeys, on_datagram, on_other, on_packet, on_protocol, on_report, on_segment, on_time, on_too_long, on_unreachable, opens, overfull, passes_over, refuses, sends_nothing, sends_of, served, shortens_at, takes_free, takes_place, tells_counts, time_to, turns_away, unreached, unreached_at, yielding, yields, yields_at}
 use Rattle.live_server.specs.Table.{conn_at, place_of}
+use Rattle.live_server.specs.Unreached.{reported}
 use Rattle.live_server.specs.declared.conn.Conn.{Conn}
+use Rattle.live_server.specs.declared.unreached.Reported.{Reported}
+use Rattle.live_server.specs.declared.unreached.Reported.TheVariants.{HalfOpen, Open, Stray}
 use Rattle.live_server.specs.declared.conn.Met.{Met}
 use Rattle.live_server.specs.declared.conn.Met.TheVariants.{Gone, Judged as judges}
 
@@ -157,13 +162,35 @@ protocol_drains now body sv idle drains = by (order_in sv.setting body) refl dra
     by None at is = never (on_other now (ping_in body) sv).server.draining sv.draining (other_drains now (ping_in body) sv) idle is
     by (Some u) at is = (u, at, obeyed_drains now u (ordered_text u body) sv idle is)
 
+unreached_drains : (x : Unreachable) (sv : ServerOf) → (on_unreachable x sv).draining ≡ sv.draining
+unfolding on_unreachable unreached_at
+unreached_drains x sv = by (is_to_us sv.setting x.src x.dst) (place_of x.ends sv.conns)
+  where
+    met : (r : Reported) (i : ℕ) → (unreached r x.cause i sv).draining ≡ sv.draining
+    met Stray i = refl
+    met Open i = refl
+    met HalfOpen i = refl
+
+    by : (b : Bool) (r : Option ℕ) → (cond b (option_map_or (λ place. unreached_at x place sv) r (passes_over sv).server) (passes_over sv).server).draining ≡ sv.draining
+    by true None = refl
+    by true (Some i) = met (reported x.seq (conn_at i sv.conns)) i
+    by false r = refl
+
+report_drains : (now : ℕ) (body : List ℕ) (sv : ServerOf) → sv.draining ≡ false → (on_report now body sv).server.draining ≡ true → OrdersDrain body sv
+unfolding on_report
+report_drains now body sv idle drains = by (unreachable_in body) drains
+  where
+    by : (r : Option Unreachable) → (option_map_or (λ x. sends_nothing (on_unreachable x sv)) r (on_protocol now body sv)).server.draining ≡ true → OrdersDrain body sv
+    by None is = protocol_drains now body sv idle is
+    by (Some x) is = never (on_unreachable x sv).draining sv.draining (unreached_drains x sv) idle is
+
 packet_drains : (now : ℕ) (body : List ℕ) (p : Packet) (sv : ServerOf) → sv.draining ≡ false → (on_packet now body p sv).server.draining ≡ true → OrdersDrain body sv
 unfolding on_packet
 packet_drains now body (packet.Segment s) sv idle drains = never (addressed now s (text_in s body) sv).server.draining sv.draining (addressed_drains now s (text_in s body) sv) idle drains
 packet_drains now body packet.Other sv idle drains = by (too_long_in body) drains
   where
-    by : (r : Option TooLong) → (option_map_or (λ x. on_too_long x sv) r (on_protocol now body sv)).server.draining ≡ true → OrdersDrain body sv
-    by None is = protocol_drains now body sv idle is
+    by : (r : Option TooLong) → (option_map_or (λ x. on_too_long x sv) r (on_report now body sv)).server.draining ≡ true → OrdersDrain body sv
+    by None is = report_drains now body sv idle is
     by (Some x) is = never (on_too_long x sv).server.draining sv.draining (too_long_drains x sv) idle is
 packet_drains now body packet.Fragment sv idle drains = never sv.draining sv.draining refl idle drains
 packet_drains now body packet.Cut sv idle drains = never sv.draining sv.draining refl idle drains

@@ -1,3 +1,4 @@
+pub mod UnreachedLemmas
 pub mod NumberLemmas
 pub mod WrittenLemmas
 pub mod ConnLemmas

@@ -1,5 +1,7 @@
 -- What is counted.
 use Rattle.std.specs.Prelude.{ℕ, ◌+◌, ◌%◌, ◌^◌}
+use Rattle.icmp_codec.specs.declared.unreachable.Cause.{Cause}
+use Rattle.icmp_codec.specs.declared.unreachable.Cause.TheVariants.{Away, Parameter, Port, Prohibited, TimeExceeded}
 use Rattle.live_server.specs.declared.conn.Judged.{Judged}
 use Rattle.live_server.specs.declared.conn.Judged.TheVariants.{Challenged, Late, Taken, Unanswered}
 use Rattle.live_server.specs.declared.counts.Counts.{Counts}
@@ -19,6 +21,12 @@ no_counts = record {
   late = 0;
   over_full = 0;
   shortened = 0;
+  unreachable = 0;
+  port_unreachable = 0;
+  prohibited = 0;
+  time_exceeded = 0;
+  parameter_problem = 0;
+  unreached = 0;
 }
 
 -- so many more, modulo 2^64
@@ -30,3 +38,11 @@ counting_judged Taken n = n
 counting_judged Challenged n = record n { challenges = more 1 n.challenges }
 counting_judged Unanswered n = record n { unanswered = more 1 n.unanswered }
 counting_judged Late n = record n { late = more 1 n.late }
+
+-- a segment that didn't arrive, by its cause (RFC 1122, 3.2.2)
+abbrev pub counting_cause : Cause → Counts → Counts
+counting_cause Away n = record n { unreachable = more 1 n.unreachable }
+counting_cause Port n = record n { port_unreachable = more 1 n.port_unreachable }
+counting_cause Prohibited n = record n { prohibited = more 1 n.prohibited }
+counting_cause TimeExceeded n = record n { time_exceeded = more 1 n.time_exceeded }
+counting_cause Parameter n = record n { parameter_problem = more 1 n.parameter_problem }

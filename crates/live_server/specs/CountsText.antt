@@ -24,8 +24,17 @@ segment_counts n = (codes "challenges", n.challenges) ∷ (codes "unanswered", n
 abbrev pub limit_counts : Counts → List (List ℕ × ℕ)
 limit_counts n = (codes "over_full", n.over_full) ∷ (codes "shortened", n.shortened) ∷ []
 
+-- what routers say of segments, and who left at that
+abbrev pub reach_counts : Counts → List (List ℕ × ℕ)
+reach_counts n =
+    (codes "unreachable", n.unreachable) ∷ (codes "port_unreachable", n.port_unreachable) ∷ (codes "prohibited", n.prohibited) ∷ (codes "unreached", n.unreached)
+    ∷ []
+
+abbrev pub header_counts : Counts → List (List ℕ × ℕ)
+header_counts n = (codes "time_exceeded", n.time_exceeded) ∷ (codes "parameter_problem", n.parameter_problem) ∷ []
+
 abbrev pub named_counts : Counts → List (List ℕ × ℕ)
-named_counts n = datagram_counts n ++ (place_counts n ++ (segment_counts n ++ limit_counts n))
+named_counts n = datagram_counts n ++ (place_counts n ++ (segment_counts n ++ (limit_counts n ++ (reach_counts n ++ header_counts n))))
 
 -- how many connections there are, and how many of them may be half open; how many bytes all hold; whether the server drains
 abbrev pub state_counts : ℕ → ℕ → ℕ → Bool → List (List ℕ × ℕ)

@@ -5,6 +5,7 @@ use Rattle.std.specs.Map.{keys_of, lookup}
 use Rattle.std.specs.Option.{option_map_or}
 use Rattle.icmp_codec.specs.TooLong.{too_long_in}
 use Rattle.icmp_codec.specs.declared.too_long.TooLong.{TooLong}
+use Rattle.icmp_codec.specs.declared.unreachable.Unreachable.{Unreachable}
 use Rattle.segment_codec.specs.Packet.{packet_in}
 use Rattle.segment_codec.specs.Refusal.{tuple_of}
 use Rattle.segment_codec.specs.declared.packet.Packet.TheVariants.{Segment}
@@ -17,8 +18,9 @@ use Rattle.live_server.specs.Addresses.{is_to_us}
 use Rattle.live_server.specs.Initial.{number_for}
 use Rattle.live_server.specs.Leaving.{is_leaving, shed_ends, without_leaving}
 use Rattle.live_server.specs.PathMtu.{path_told, text_in_mtu}
-use Rattle.live_server.specs.Serving.{ServerOf, heeded, heeded_text, makes_place, on_segment, on_time, on_too_long, passes_over, timed, measures_of}
+use Rattle.live_server.specs.Serving.{ServerOf, heeded, heeded_text, makes_place, on_segment, on_time, on_too_long, on_unreachable, passes_over, timed, measures_of}
 use Rattle.live_server.specs.Table.{Conns, all_reached, tuple_eq, without_over}
+use Rattle.live_server.specs.Unreached.{is_under_way}
 use Rattle.live_server.specs.declared.acting.Datagram.{Datagram}
 use Rattle.live_server.specs.declared.conn.Conn.{Conn}
 
@@ -123,6 +125,18 @@ pub record IsApart (x : TooLong) (sv : ServerOf) : Type 0 where
 
 abbrev pub TooLongIsApart : Type 0
 TooLongIsApart = (x : TooLong) (sv : ServerOf) → IsTable sv → IsApart x sv
+
+-- No message of a router that a segment didn't arrive ends an open connection, whoever sends it (RFC 9293, 3.9.2.2): at most a half-open one of its
+-- ends leaves. And it counts for nothing where no segment of its number is under way
+pub record IsHarmless (x : Unreachable) (sv : ServerOf) : Type 0 where
+  pub table : IsTable (on_unreachable x sv)
+  pub kept : (q : Tuple) (c : Conn) → conn_of q sv ≡ Some c → is_half_open c ≡ false → conn_of q (on_unreachable x sv) ≡ Some c
+  pub stays : (q : Tuple) → Stays q sv (on_unreachable x sv)
+  pub others : (q : Tuple) → tuple_eq x.ends q ≡ false → conn_of q (on_unreachable x sv) ≡ conn_of q sv
+  pub stray : (c : Conn) → conn_of x.ends sv ≡ Some c → is_under_way x.seq c ≡ false → on_unreachable x sv ≡ (passes_over sv).server
+
+abbrev pub ReportIsHarmless : Type 0
+ReportIsHarmless = (x : Unreachable) (sv : ServerOf) → IsTable sv → IsHarmless x sv
 
 -- what is sent for a segment goes to its own ends
 abbrev pub AnswersItsEnds : Type 0

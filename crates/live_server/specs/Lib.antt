@@ -1,3 +1,4 @@
+pub mod Unreached
 pub mod Limits
 pub mod Initial
 pub mod Addresses

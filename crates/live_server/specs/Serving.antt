@@ -19,15 +19,19 @@ use Rattle.live_server.specs.Acts.{datagram_of, emptied, is_half_open, is_over, 
 use Rattle.icmp_codec.specs.EchoReply.{pong_bytes}
 use Rattle.icmp_codec.specs.EchoRequest.{PingOf, ping_in}
 use Rattle.icmp_codec.specs.TooLong.{too_long_in}
+use Rattle.icmp_codec.specs.Unreachable.{unreachable_in}
+use Rattle.icmp_codec.specs.declared.unreachable.Cause.{Cause}
+use Rattle.icmp_codec.specs.declared.unreachable.Unreachable.{Unreachable}
 use Rattle.icmp_codec.specs.declared.too_long.TooLong.{TooLong}
 use Rattle.live_server.specs.Addresses.{is_for_us, is_to_us}
-use Rattle.live_server.specs.Counting.{counting_judged, more}
+use Rattle.live_server.specs.Counting.{counting_cause, counting_judged, more}
 use Rattle.live_server.specs.CountsText.{counts_text, named_counts, state_counts}
 use Rattle.live_server.specs.Initial.{number_for}
 use Rattle.live_server.specs.Leaving.{and_turned, without_leaving, without_shed}
 use Rattle.live_server.specs.PathMtu.{shortens, text_in_mtu}
 use Rattle.live_server.specs.Orders.{order_in}
 use Rattle.live_server.specs.Services.{is_served_at, service_at}
+use Rattle.live_server.specs.Unreached.{reported}
 use Rattle.live_server.specs.Table.{Conns, all_reached, conn_at, held_by, place_of, replaced, without, without_over}
 use Rattle.live_server.specs.declared.acting.Datagram.{Datagram}
 use Rattle.live_server.specs.declared.conn.Conn.{Conn}
@@ -40,6 +44,8 @@ use Rattle.live_server.specs.declared.crowding.TurnedAway.TheVariants.{Nobody}
 use Rattle.live_server.specs.declared.measures.Measures.{Measures}
 use Rattle.live_server.specs.declared.rules.Rules.{Rules}
 use Rattle.live_server.specs.declared.setting.Setting.{Setting}
+use Rattle.live_server.specs.declared.unreached.Reported.{Reported}
+use Rattle.live_server.specs.declared.unreached.Reported.TheVariants.{HalfOpen, Open, Stray}
 
 -- the connections; the ends and the number of those that were opened last, which may be half open, by age; how many bytes all held when
 -- the time last came to them, with the text that came since; how many echo requests were answered since then, whether the
@@ -254,6 +260,28 @@ on_too_long x sv =
     if is_to_us sv.setting x.src x.dst then option_map_or (λ place. shortens_at x place sv) (place_of x.ends sv.conns) (passes_over sv)
     else passes_over sv
 
+-- A router says that a segment didn't arrive. Where it is of a connection's segment under way, it counts by its cause (RFC 9293, 3.9.2.2)
+abbrev pub caused : Cause → ServerOf → ServerOf
+caused cause sv = record sv { counts = counting_cause cause sv.counts }
+
+-- and a half-open connection leaves
+abbrev pub leaves_unreached : ℕ → ServerOf → ServerOf
+leaves_unreached place sv = record sv { conns = without place sv.conns; counts = record sv.counts { unreached = more 1 sv.counts.unreached } }
+
+abbrev pub unreached : Reported → Cause → ℕ → ServerOf → ServerOf
+unreached Stray cause place sv = (passes_over sv).server
+unreached Open cause place sv = caused cause sv
+unreached HalfOpen cause place sv = leaves_unreached place (caused cause sv)
+
+unfoldable pub unreached_at : Unreachable → ℕ → ServerOf → ServerOf
+unreached_at x place sv = unreached (reported x.seq (conn_at place sv.conns)) x.cause place sv
+
+-- where it is for us, and the segment was of a connection that stands here
+unfoldable pub on_unreachable : Unreachable → ServerOf → ServerOf
+on_unreachable x sv =
+    if is_to_us sv.setting x.src x.dst then option_map_or (λ place. unreached_at x place sv) (place_of x.ends sv.conns) (passes_over sv).server
+    else (passes_over sv).server
+
 -- another protocol's datagram
 unfoldable pub on_other : ℕ → Option PingOf → ServerOf → Outcome
 on_other now None sv = passes_over sv
@@ -285,9 +313,13 @@ obeys now u text sv =
 unfoldable pub on_protocol : ℕ → List ℕ → ServerOf → Outcome
 on_protocol now body sv = option_map_or (λ u. obeys now u (ordered_text u body) sv) (order_in sv.setting body) (on_other now (ping_in body) sv)
 
+-- what says of no segment that it was too long: a router's message that one didn't arrive, or none of a router
+unfoldable pub on_report : ℕ → List ℕ → ServerOf → Outcome
+on_report now body sv = option_map_or (λ x. sends_nothing (on_unreachable x sv)) (unreachable_in body) (on_protocol now body sv)
+
 unfoldable pub on_packet : ℕ → List ℕ → Packet → ServerOf → Outcome
 on_packet now body (packet.Segment s) sv = addressed now s (text_in s body) sv
-on_packet now body packet.Other sv = option_map_or (λ x. on_too_long x sv) (too_long_in body) (on_protocol now body sv)
+on_packet now body packet.Other sv = option_map_or (λ x. on_too_long x sv) (too_long_in body) (on_report now body sv)
 on_packet now body packet.Fragment sv = passes_over sv
 on_packet now body packet.Cut sv = passes_over sv
 on_packet now body (packet.Malformed why) sv = passes_over sv

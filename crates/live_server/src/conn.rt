@@ -13,7 +13,7 @@ ghost use Rattle.tcb_machine.specs.Room.{HasRoom};
 ghost use Rattle.tcb_machine.specs.Limits.{last_time};
 
 use crate::acting::{Datagram, announced};
-use crate::congestion::{Congestion, is_open};
+use crate::congestion::{Congestion, flight, is_open};
 use crate::facts::Facts;
 use crate::measures::Measures;
 use crate::service::LiveService;
@@ -96,6 +96,8 @@ impl Conn {
             since: self.since,
             heard: self.heard,
             held: self.tcb.held(),
+            una: self.tcb.snd_una(),
+            flight: flight(&self.tcb),
         }
     }
 

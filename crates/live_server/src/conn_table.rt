@@ -8,6 +8,7 @@ ghost use Rattle.live_server.specs.Acts.{emptied, meets, sent_by, ticked};
 ghost use Rattle.live_server.specs.Leaving.{peer_of, without_leaving};
 ghost use Rattle.live_server.specs.PathMtu.{shortens};
 ghost use Rattle.live_server.specs.Serving.{is_waiting};
+ghost use Rattle.live_server.specs.Unreached.{reported};
 ghost use Rattle.live_server.specs.Table.{Conns, all_reached, conn_at, held_by, place_of, replaced, without, without_over, IsNew};
 ghost use Rattle.live_server.specs.Told.{Told};
 ghost use Rattle.live_server.specs.Told.Told.{begins, hears};
@@ -20,6 +21,7 @@ use crate::conn::{Conn, Met};
 use crate::crowding::Peer;
 use crate::measures::Measures;
 use crate::setting::Setting;
+use crate::unreached::Reported;
 use segment_codec::Seg;
 use sq_base::Tuple;
 use std::alloc::{AllocError, Global};
@@ -53,6 +55,12 @@ pub trait ConnTable {
     fn is_waiting_at(&self, place: usize, number: u64) -> bool
         requires good { good self.now }
         ensures { result ≡ is_waiting number (conn_at place (conns self.now)) };
+
+    /// What a message is to the connection at a place that the segment with a number didn't arrive.
+    fn reported_at(&self, place: usize, seq: u32) -> Reported
+        requires good { good self.now }
+        requires place { place < length (conns self.now) }
+        ensures { result ≡ reported seq (conn_at place (conns self.now)) };
 
     /// Whose the connection at a place is, and when something came from it last.
     fn peer_at(&self, place: usize) -> Peer

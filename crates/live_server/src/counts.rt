@@ -1,9 +1,10 @@
 //! What a server met.
 
 ghost use Rattle.std.specs.Prelude.{◌≡◌};
-ghost use Rattle.live_server.specs.Counting.{counting_judged};
+ghost use Rattle.live_server.specs.Counting.{counting_cause, counting_judged};
 
 use crate::conn::Judged;
+use icmp_codec::Cause;
 
 /// What a server met, by cause; each count is modulo 2^64.
 #[derive(Clone, Copy, Debug, Default, PartialEq, Eq)]
@@ -34,6 +35,18 @@ pub struct Counts {
     pub over_full: u64,
     /// Connections whose segments became shorter, since a router said that one was too long for the path (RFC 1191).
     pub shortened: u64,
+    /// Segments of which a router says that their network or host can't be reached (RFC 792; RFC 1122, 3.2.2.1).
+    pub unreachable: u64,
+    /// Segments whose host says that it has nobody for their protocol or port.
+    pub port_unreachable: u64,
+    /// Segments that somebody doesn't let pass.
+    pub prohibited: u64,
+    /// Segments that passed too many hops, or waited too long for their other fragments (RFC 1122, 3.2.2.4).
+    pub time_exceeded: u64,
+    /// Segments of which somebody says that their header is wrong (RFC 1122, 3.2.2.5).
+    pub parameter_problem: u64,
+    /// Half-open connections that left at such a message.
+    pub unreached: u64,
 }
 
 impl Counts {
@@ -46,6 +59,19 @@ impl Counts {
             Judged::Challenged => self.challenges = self.challenges.wrapping_add(1),
             Judged::Unanswered => self.unanswered = self.unanswered.wrapping_add(1),
             Judged::Late => self.late = self.late.wrapping_add(1),
+        }
+    }
+
+    /// One segment more that didn't arrive.
+    pub(crate) fn report(&mut self, cause: Cause)
+        ensures { self.new ≡ counting_cause cause self.old }
+    {
+        match cause {
+            Cause::Away => self.unreachable = self.unreachable.wrapping_add(1),
+            Cause::Port => self.port_unreachable = self.port_unreachable.wrapping_add(1),
+            Cause::Prohibited => self.prohibited = self.prohibited.wrapping_add(1),
+            Cause::TimeExceeded => self.time_exceeded = self.time_exceeded.wrapping_add(1),
+            Cause::Parameter => self.parameter_problem = self.parameter_problem.wrapping_add(1),
         }
     }
 }

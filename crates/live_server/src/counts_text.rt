@@ -3,7 +3,8 @@
 ghost use Rattle.std.specs.Prelude.{◌≡◌, ◌++◌, ◌≤◌, length, IfOk, OnOk};
 ghost use Rattle.std.specs.String.{string_bytes};
 ghost use Rattle.udp_codec.specs.Limits.{most_text};
-ghost use Rattle.live_server.specs.CountsText.{count_line, counts_text, datagram_counts, limit_counts, named_counts, place_counts, segment_counts, state_counts};
+ghost use Rattle.live_server.specs.CountsText.{count_line, counts_text, datagram_counts, header_counts, limit_counts, named_counts, place_counts};
+ghost use Rattle.live_server.specs.CountsText.{reach_counts, segment_counts, state_counts};
 
 use crate::counts::Counts;
 use std::alloc::{AllocError, Global};
@@ -28,6 +29,8 @@ pub(crate) fn counts_text(
     push_places(&mut text, counts)?;
     push_segments(&mut text, counts)?;
     push_limits(&mut text, counts)?;
+    push_reach(&mut text, counts)?;
+    push_headers(&mut text, counts)?;
     Ok(text)
 }
 
@@ -82,6 +85,24 @@ fn push_limits(text: &mut String, counts: &Counts) -> Result<(), AllocError>
 {
     push_line(text, "over_full", counts.over_full)?;
     push_line(text, "shortened", counts.shortened)
+}
+
+/// Appends the counts of what routers say of segments, and of who left at that.
+fn push_reach(text: &mut String, counts: &Counts) -> Result<(), AllocError>
+    ensures { OnOk result (string_bytes text.new ≡ string_bytes text.old ++ counts_text (reach_counts counts.now)) }
+{
+    push_line(text, "unreachable", counts.unreachable)?;
+    push_line(text, "port_unreachable", counts.port_unreachable)?;
+    push_line(text, "prohibited", counts.prohibited)?;
+    push_line(text, "unreached", counts.unreached)
+}
+
+/// Appends the counts of segments whose headers somebody refused.
+fn push_headers(text: &mut String, counts: &Counts) -> Result<(), AllocError>
+    ensures { OnOk result (string_bytes text.new ≡ string_bytes text.old ++ counts_text (header_counts counts.now)) }
+{
+    push_line(text, "time_exceeded", counts.time_exceeded)?;
+    push_line(text, "parameter_problem", counts.parameter_problem)
 }
 
 /// Appends a line.

@@ -1,9 +1,11 @@
 //! What a table of connections has to know of each: whether it is over, and whether it is to leave.
 
 ghost use Rattle.std.specs.Prelude.{◌≡◌};
-ghost use Rattle.live_server.specs.Facts.{is_given_up_by, is_half_open_by, is_idle_by, is_in_time_wait_by, is_leaving_by, is_over_by, is_waiting_by};
+ghost use Rattle.live_server.specs.Facts.{is_given_up_by, is_half_open_by, is_idle_by, is_in_time_wait_by, is_leaving_by, is_over_by, is_waiting_by, reported_by};
 
 use crate::setting::Setting;
+use crate::unreached::Reported;
+use sq_base::seq_dist;
 use tcb_machine::State;
 
 /// A connection is half open for so many microseconds at most (RFC 9293, 3.8.3 gives a SYN three minutes at least).
@@ -25,6 +27,10 @@ pub struct Facts {
     pub heard: u64,
     /// How many bytes of text it holds.
     pub held: u64,
+    /// SND.UNA (RFC 9293, 3.3.1).
+    pub una: u32,
+    /// How many sequence numbers were sent and aren't acknowledged.
+    pub flight: u32,
 }
 
 impl Facts {
@@ -47,6 +53,19 @@ impl Facts {
         ensures { result ≡ is_waiting_by number self.now }
     {
         self.is_half_open() && self.number == number
+    }
+
+    /// What a message is to it that the segment with a number didn't arrive.
+    pub fn reported(&self, seq: u32) -> Reported
+        ensures { result ≡ reported_by seq self.now }
+    {
+        if seq_dist(self.una, seq) >= self.flight {
+            Reported::Stray
+        } else if self.is_half_open() {
+            Reported::HalfOpen
+        } else {
+            Reported::Open
+        }
     }
 
     /// Whether it is in TIME-WAIT (RFC 9293, 3.3.2).

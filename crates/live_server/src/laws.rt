@@ -4,7 +4,7 @@ ghost use Rattle.std.specs.Prelude.{◌≡◌, codes};
 ghost use Rattle.live_server.specs.DaytimeText.{date_of, daytime_text};
 ghost use Rattle.live_server.specs.Draining.{EachCloses, HostDrains, NoneOpens, TimeKeepsDrain};
 ghost use Rattle.live_server.specs.Frames.{PiecesJoin};
-ghost use Rattle.live_server.specs.Isolation.{AnswersItsEnds, OthersStay, OwnConnActs, OwnEntryGivesWay, SegmentKeepsTable, TimeKeepsTable, TimeLeaves, TooLongIsApart};
+ghost use Rattle.live_server.specs.Isolation.{AnswersItsEnds, OthersStay, OwnConnActs, OwnEntryGivesWay, SegmentKeepsTable, TimeKeepsTable, TimeLeaves, TooLongIsApart, ReportIsHarmless};
 ghost use Rattle.live_server.specs.Promises.{ChallengesAreApart, FirstIsWide, OneGivesWay, OneIsShed, PlaceIsFreed, OutputIsBounded, SegmentKeepsFew, SegmentKeepsWide, ShedIsFair, ShownIsKept};
 ghost use Rattle.live_server.specs.Promises.{NewIsShort, SegmentKeepsShort, ShownIsNarrow, TextIsBounded, TextIsCounted, TimeCountsAnew, TimeKeepsFew};
 ghost use Rattle.live_server.specs.Promises.{HeededIsShort, PathIsBounded, PlacedStaysShort, RestartIsWide, BeginsBeyondRecover, UnsentIsIgnored};
@@ -147,4 +147,10 @@ pub fn paths_shorten_segments()
     ensures heeded { HeededIsShort }
     ensures bounded { PathIsBounded }
     ensures unsent { UnsentIsIgnored }
+{}
+
+/// No message of a router that a segment didn't arrive ends an open connection, whoever sends it: at most a half-open one between its ends
+/// leaves, and only where its SYN,ACK is under way (RFC 9293, 3.9.2.2).
+pub fn no_report_ends_an_open_connection()
+    ensures { ReportIsHarmless }
 {}

@@ -58,7 +58,7 @@ pub struct Rules<T> {
     draining: bool,
     setting: Setting,
     secret: Secret,
-    counts: Counts,
+    pub(crate) counts: Counts,
 }
 
 impl<T: ConnTable> Rules<T> {
@@ -110,6 +110,13 @@ impl<T: ConnTable> Rules<T> {
         self.table.len()
     }
 
+    /// What they were started with.
+    pub(crate) fn setting(&self) -> &Setting
+        ensures { result.now ≡ self.now.setting }
+    {
+        &self.setting
+    }
+
     /// What they met since they were made.
     pub fn counts(&self) -> Counts
         ensures { result ≡ (server_of T.conns self.now).counts }
@@ -119,7 +126,7 @@ impl<T: ConnTable> Rules<T> {
 
     /// An IPv4 datagram comes at a time in microseconds. What is sent goes behind the datagrams that are there. Both checksums are
     /// verified. An echo request is answered, an order of the host is obeyed, a router's message that a segment was too long is told to
-    /// the segment's connection, and what else is no whole TCP segment is passed over. An error says that memory was missing: then the
+    /// the segment's connection, one that it didn't arrive counts, and what else is no whole TCP segment is passed over. An error says that memory was missing: then the
     /// segment's own connection may be gone, with half-open ones that gave way, and some of what is to be sent is missing. All else stays
     /// but who may give way, what is held, and three counts.
     #[tactic(auto, unfolding(crate::specs::Serving::on_datagram, crate::specs::Serving::on_packet))]
@@ -145,7 +152,7 @@ impl<T: ConnTable> Rules<T> {
             Packet::Segment(seg) => self.addressed(alloc, now, &seg, text_of(&seg, body), out),
             Packet::Other => match too_long_in(body) {
                 Some(too_long) => self.shorten(alloc, &too_long, out),
-                None => self.protocol(alloc, now, body, out),
+                None => self.report(alloc, now, body, out),
             },
             _ => {
                 self.pass_over();
@@ -217,7 +224,7 @@ impl<T: ConnTable> Rules<T> {
 
     /// A datagram of another protocol: an order of the host is obeyed.
     #[tactic(auto, unfolding(crate::specs::Serving::on_protocol))]
-    fn protocol(
+    pub(crate) fn protocol(
         &mut self,
         alloc: Global,
         now: u64,
@@ -362,7 +369,7 @@ impl<T: ConnTable> Rules<T> {
     }
 
     /// A datagram counts, and changes nothing.
-    fn pass_over(&mut self)
+    pub(crate) fn pass_over(&mut self)
         ensures table { self.new.table ≡ self.old.table }
         ensures server { server_of T.conns self.new ≡ (passes_over (server_of T.conns self.old)).server }
     {

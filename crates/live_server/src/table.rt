@@ -8,6 +8,7 @@ ghost use Rattle.live_server.specs.Acts.{is_over, meets, sent_by, ticked};
 ghost use Rattle.live_server.specs.Leaving.{peer_of, without_leaving};
 ghost use Rattle.live_server.specs.PathMtu.{shortens};
 ghost use Rattle.live_server.specs.Serving.{is_waiting};
+ghost use Rattle.live_server.specs.Unreached.{reported};
 ghost use Rattle.live_server.specs.Table.{all_reached, conn_at, held_by, place_of, reached_until, replaced, settled, without, without_over, IsNew};
 ghost use Rattle.live_server.specs.Written.{HasSent};
 ghost use Rattle.live_server.specs.declared.conn.Met.TheVariants.{Gone};
@@ -19,6 +20,7 @@ use crate::conn_table::ConnTable;
 use crate::crowding::Peer;
 use crate::measures::Measures;
 use crate::setting::Setting;
+use crate::unreached::Reported;
 use indexmap::IndexMap;
 use segment_codec::Seg;
 use sq_base::Tuple;
@@ -51,6 +53,10 @@ impl ConnTable for Table {
 
     fn is_waiting_at(&self, place: usize, number: u64) -> bool {
         is_waiting_at(self, place, number)
+    }
+
+    fn reported_at(&self, place: usize, seq: u32) -> Reported {
+        reported_at(self, place, seq)
     }
 
     fn peer_at(&self, place: usize) -> Peer {
@@ -156,6 +162,17 @@ fn is_waiting_at(table: &Table, place: usize, number: u64) -> bool
         Some((_, conn)) => conn.is_half_open() && conn.number == number,
         None => false,
     }
+}
+
+/// What a message is to the connection at a place that the segment with a number didn't arrive.
+fn reported_at(table: &Table, place: usize, seq: u32) -> Reported
+    requires { place < length table.now.entries }
+    ensures { result ≡ reported seq (conn_at place table.now.entries) }
+{
+    let Some((_, conn)) = table.get_index(place) else {
+        unreachable!()
+    };
+    conn.facts().reported(seq)
 }
 
 /// Whose the connection at a place is, and when something came from it last.

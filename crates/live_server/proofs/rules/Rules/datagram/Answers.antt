@@ -25,12 +25,10 @@ returns-in-Some-clause-told g c =
 pub returns-in-None-clause-told : goal.returns-in-None-clause-told
 returns-in-None-clause-told g c =
     let sv : ServerOf = server_of g.T.ConnTable.conns c.args.self.now in
-    map_ok c.protocol.result _ (g.T.ConnTable.tells c.args.self.now.table (told_datagram c.args.now c.args.body.now sv) c.protocol.new.self.table)
-    (λ _. subst (λ t. g.T.ConnTable.tells c.args.self.now.table (told_datagram c.args.now c.args.body.now sv) t) (sym c.protocol.ensures.table)
-    (subst (λ ws. g.T.ConnTable.tells c.args.self.now.table ws c.args.self.now.table)
-    (sym (unheard_told c.args.now c.args.body.now sv (sym c.decode.ensures ∙ c.in-Other.is) (sym c.too_long_in.ensures ∙ c.in-None.is)))
-    (g.met.T.ConnTable.tells_nothing c.args.self.now.table)))
-    c.protocol.ensures.server
+    map_ok c.report.result _ (g.T.ConnTable.tells c.args.self.now.table (told_datagram c.args.now c.args.body.now sv) c.report.new.self.table)
+    (λ told. subst (λ ws. g.T.ConnTable.tells c.args.self.now.table ws c.report.new.self.table)
+    (sym (unheard_told c.args.now c.args.body.now sv (sym c.decode.ensures ∙ c.in-Other.is) (sym c.too_long_in.ensures ∙ c.in-None.is))) told)
+    c.report.ensures.told
 
 pub returns-in_default-clause-told : goal.returns-in_default-clause-told
 returns-in_default-clause-told g c =
@@ -55,4 +53,4 @@ returns-in-Some-clause-rest g c =
 pub returns-in-None-clause-rest : goal.returns-in-None-clause-rest
 returns-in-None-clause-rest g c =
     let sv : ServerOf = server_of g.T.ConnTable.conns c.args.self.now in
-    same_rest c.protocol.result (length c.args.body.now) sv (server_of g.T.ConnTable.conns c.protocol.new.self) c.protocol.ensures.kept
+    same_rest c.report.result (length c.args.body.now) sv (server_of g.T.ConnTable.conns c.report.new.self) c.report.ensures.kept
