@@ -30,3 +30,4 @@ pub mod TightLemmas
 pub mod DrainLemmas
 pub mod HostLemmas
 pub mod CountsLemmas
+pub mod TimingLemmas

@@ -27,6 +27,7 @@ mod service;
 mod setting;
 mod site;
 mod table;
+mod timing;
 
 pub use acting::Datagram;
 pub use congestion::Congestion;
@@ -49,3 +50,4 @@ pub use service::LiveService;
 pub use setting::Setting;
 pub use site::Site;
 pub use table::Table;
+pub use timing::{Mark, Sample, Timing, Trip};
