@@ -39,6 +39,9 @@ use Rattle.live_server.specs.Services.{is_served_at}
 use Rattle.live_server.specs.Unreached.{reported}
 use Rattle.live_server.specs.Serving.{ServerOf, addressed, admits, becomes, caused, comes, counting_path, echoes, fits, goes_on, heeded, heeded_text, heeds, holding, is_echoed, judging, limited, measures_of, noting, obeys, on_datagram, on_other, on_packet, on_protocol, on_report, on_segment, on_too_long, on_unreachable, opens, overfull, passes_over, refuses, sends_nothing, served, shortens_at, tells_counts, time_to, unreached, unreached_at}
 use Rattle.live_server.specs.Table.{all_reached, conn_at, place_of, tuple_eq}
+use Rattle.live_server.specs.Timing.{is_started, mark_of, retimed, timeout}
+use Rattle.live_server.specs.declared.timing.Mark.{Mark}
+use Rattle.tcb_machine.specs.Beside.{retiming}
 use Rattle.live_server.specs.declared.conn.Conn.{Conn}
 use Rattle.live_server.specs.declared.unreached.Reported.{Reported}
 use Rattle.live_server.specs.declared.unreached.Reported.TheVariants.{HalfOpen, Open, Stray}
@@ -285,9 +288,13 @@ closed_in Closing b e = ap may_offer e
 closed_in LastAck b e = ap may_offer e
 closed_in TimeWait b e = ap may_offer e
 
-closed_offers : (b : Block) → may_offer (closed true b).state ≡ false
+retimed_state : (rto : ℕ) (m : Mark) (b : Block) → (retimed rto m b).state ≡ b.state
+unfolding retimed retiming
+retimed_state rto m b = chosen_state (is_started m b) (retiming rto b) b b refl refl
+
+closed_offers : (rto : ℕ) (b : Block) → may_offer (closed rto true b).state ≡ false
 unfolding closed tcp_call
-closed_offers b = closed_in b.state b refl
+closed_offers rto b = ap may_offer (retimed_state rto (mark_of b) (followed (λ x. x) (close_in b.state b).verdict)) ∙ closed_in b.state b refl
 
 pruned_state : (tight : Bool) (b : Block) → (pruned tight b).state ≡ b.state
 unfolding forgetting
@@ -296,7 +303,9 @@ pruned_state false b = refl
 
 ticked_offers : (tight : Bool) (now : ℕ) (c : Conn) → may_offer (emptied (ticked (record { tight = tight; draining = true }) now c)).tcb.state ≡ false
 unfolding emptied
-ticked_offers tight now c = ap may_offer (pruned_state tight (closed true (reaches now c.tcb))) ∙ closed_offers (reaches now c.tcb)
+ticked_offers tight now c =
+    let rto = timeout (reached now c).timing in
+    ap may_offer (pruned_state tight (closed rto true (reaches now c.tcb))) ∙ closed_offers rto (reaches now c.tcb)
 
 offers_of : (tight : Bool) (now : ℕ) (o : Option Conn) (c : Conn) → option_map (λ (d : Conn). emptied (ticked (record { tight = tight; draining = true }) now d)) o ≡ Some c
     → may_offer c.tcb.state ≡ false

@@ -31,3 +31,4 @@ pub mod TightLemmas
 pub mod DrainLemmas
 pub mod HostLemmas
 pub mod CountsLemmas
+pub mod TimingLemmas

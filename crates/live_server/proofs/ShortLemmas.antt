@@ -33,6 +33,9 @@ use Rattle.live_server.specs.DaytimeText.{daytime_text}
 use Rattle.live_server.specs.Promises.{NewIsShort, SegmentKeepsShort, TimeKeepsShort}
 use Rattle.live_server.specs.Services.{pump_of}
 use Rattle.live_server.specs.Serving.{limited}
+use Rattle.live_server.specs.Timing.{clocked, is_started, mark_of, retimed, timeout}
+use Rattle.live_server.specs.declared.timing.Mark.{Mark}
+use Rattle.tcb_machine.specs.Beside.{retiming}
 use Rattle.live_server.specs.declared.conn.Conn.{Conn}
 use Rattle.live_server.specs.declared.conn.Judged.{Judged}
 use Rattle.live_server.specs.declared.conn.Judged.TheVariants.{Challenged, Late, Taken, Unanswered}
@@ -421,6 +424,10 @@ module _ (n : ℕ) (some : 1 ≤ n) where
   unfolding renewed
   renewed_short una field b h = short_cond n ((b.una == una) && not (field == 0)) b (record b { retransmissions = 0 }) h (record { agreed = h.agreed; sent = h.sent })
 
+  retimed_short : (rto : ℕ) (m : Mark) (b : Block) → Short n b → Short n (retimed rto m b)
+  unfolding retimed retiming
+  retimed_short rto m b h = short_cond n (is_started m b) (retiming rto b) b (record { agreed = h.agreed; sent = h.sent }) h
+
   pub resent_short : (called : Bool) (b : Block) → Short n b → Short n (resent called b)
   unfolding resent
   resent_short called b h = by (called && (not (is_listen b.state) && not (b.una == snd_nxt b))) refl
@@ -444,7 +451,10 @@ module _ (n : ℕ) (some : 1 ≤ n) where
       let t = seen s c.tcb (eased s c.tcb c.congestion) in
       let b = followed (pump_of c.service) (tcp_segment now iss t text c.tcb) in
       let one = followed_short (pump_of c.service) (pumps_of c.service) (record c.tcb { clock = now }) (tcp_segment now iss t text c.tcb) (segment-says now iss t text c.tcb valid) says in
-      resent_short (calls_again s c.tcb c.congestion) (renewed c.tcb.una s.wnd b) (renewed_short c.tcb.una s.wnd b one)
+      let again = calls_again s c.tcb c.congestion in
+      let m = mark_of c.tcb in
+      let rto = timeout (clocked now again m b c.timing) in
+      resent_short again (renewed c.tcb.una s.wnd (retimed rto m b)) (renewed_short c.tcb.una s.wnd (retimed rto m b) (retimed_short rto m b one))
 
   -- where a closed window lets it count
   allowed_open : (s : Seg) (b : Block) → is_allowed s b ≡ true → is_listen b.state ≡ false
@@ -537,14 +547,15 @@ module _ (n : ℕ) where
   closed_in LastAck b e h = h
   closed_in TimeWait b e h = h
 
-  closed_short : (draining : Bool) (b : Block) → Short n b → Short n (closed draining b)
+  closed_short : (some : 1 ≤ n) (rto : ℕ) (draining : Bool) (b : Block) → Short n b → Short n (closed rto draining b)
   unfolding closed tcp_call
-  closed_short true b h = closed_in b.state b refl h
-  closed_short false b h = h
+  closed_short some rto true b h = retimed_short n some rto (mark_of b) (followed (λ x. x) (close_in b.state b).verdict) (closed_in b.state b refl h)
+  closed_short some rto false b h = h
 
 pub time_keeps_short : TimeKeepsShort
 time_keeps_short measures now c valid h =
     let n = max least_mss c.most in
-    let first = closed_short n measures.draining (reaches now c.tcb) (reached_short n (omega arith) now c.tcb valid (record { agreed = h.agreed; sent = h.sent })) in
-    let one = pruned_short n measures.tight (closed measures.draining (reaches now c.tcb)) first in
+    let r = reached now c in
+    let first = closed_short n (omega arith) (timeout r.timing) measures.draining (reaches now c.tcb) (reached_short n (omega arith) now c.tcb valid (record { agreed = h.agreed; sent = h.sent })) in
+    let one = pruned_short n measures.tight (closed (timeout r.timing) measures.draining r.tcb) first in
     record { sent = one.sent; agreed = one.agreed }

@@ -17,6 +17,7 @@ use Rattle.live_server.specs.Leaving.{is_leaving, without_leaving}
 use Rattle.live_server.specs.Promises.{TickKeepsOrder, TightHoldsOrder}
 use Rattle.live_server.specs.Serving.{ServerOf, measures_of, on_time}
 use Rattle.live_server.specs.Table.{all_reached, tuple_eq, without_over}
+use Rattle.live_server.specs.Timing.{timeout}
 use Rattle.live_server.specs.declared.conn.Conn.{Conn}
 use Rattle.live_server.proofs.ShedLemmas.{look_shed}
 use Rattle.live_server.proofs.TableLemmas.{tuple_equivalence}
@@ -44,7 +45,7 @@ forgotten_order b = forgetting-order b ∙ ap (λ (n : ℕ). n + length b.out) (
 
 pub ticked_order : (draining : Bool) (now : ℕ) (c : Conn) → HoldsOrder (emptied (ticked (record { tight = true; draining = draining }) now c)).tcb
 unfolding emptied forgetting without_ahead
-ticked_order draining now c = forgotten_order (closed draining (reaches now c.tcb))
+ticked_order draining now c = forgotten_order (closed (timeout (reached now c).timing) draining (reaches now c.tcb))
 
 -- ---- who is there behind a tick
 passed : (p : Conn → Bool) (o : Option Conn) (c : Conn) → option_filter p o ≡ Some c → o ≡ Some c

@@ -23,6 +23,7 @@ use Rattle.live_server.specs.Congestion.{calls_again, eased, is_open, no_congest
 use Rattle.live_server.specs.declared.congestion.Congestion.{Congestion}
 use Rattle.live_server.specs.Limits.{challenge_interval}
 use Rattle.live_server.specs.Services.{after_pump, pump_of}
+use Rattle.live_server.specs.Timing.{clocked, expired, mark_of, no_timing, retimed, timeout}
 use Rattle.live_server.specs.declared.acting.Datagram.{Datagram}
 use Rattle.live_server.specs.declared.conn.Conn.{Conn}
 use Rattle.live_server.specs.declared.conn.Judged.{Judged}
@@ -32,6 +33,7 @@ use Rattle.live_server.specs.declared.conn.Met.TheVariants.{Gone, Judged as judg
 use Rattle.live_server.specs.declared.measures.Measures.{Measures}
 use Rattle.live_server.specs.declared.service.LiveService.{LiveService}
 use Rattle.live_server.specs.declared.service.LiveService.TheVariants.{Discard}
+use Rattle.live_server.specs.declared.timing.Timing.{Timing}
 
 -- a connection that nothing is known of, with its service, and the most text that a segment may have on its path; it has no place yet, so no number
 abbrev pub new_conn : LiveService → ℕ → ℕ → Conn
@@ -44,6 +46,7 @@ new_conn service most now = record {
   heard = now;
   quiet_until = 0;
   congestion = no_congestion;
+  timing = no_timing;
 }
 
 -- what stands for one where there is none
@@ -102,15 +105,18 @@ renewed una field b = if (b.una == una) && not (field == 0) then b else record b
 unfoldable pub resent : Bool → Block → Block
 resent again b = if again && (not (is_listen b.state) && not (b.una == snd_nxt b)) then retransmits b.state b else b
 
--- the block and the service take it, as the congestion window lets it
+-- the block and the service take it, as the congestion window lets it; the timer, where it starts, does so with the timeout of the round trips
 unfoldable pub taken : ℕ → ℕ → Seg → List ℕ → Conn → Conn
 taken now iss s text c =
     let x = eased s c.tcb c.congestion in
     let b = serves (pump_of c.service) (segment now iss (seen s c.tcb x) text ∷ []) c.tcb in
+    let again = calls_again s c.tcb c.congestion in
+    let t = clocked now again (mark_of c.tcb) b c.timing in
     record c {
-      tcb = resent (calls_again s c.tcb c.congestion) (renewed c.tcb.una s.wnd b);
+      tcb = resent again (renewed c.tcb.una s.wnd (retimed (timeout t) (mark_of c.tcb) b));
       service = kept after_pump c.service (tcp_segment now iss (seen s c.tcb x) text c.tcb);
       congestion = x;
+      timing = t;
       heard = now;
     }
 
@@ -153,17 +159,27 @@ reaches now b = if nat_le b.clock now then tcp_time now b else b
 unfoldable pub slowed : ℕ → Block → Congestion → Congestion
 slowed before b x = if nat_lt before b.retransmissions && not (x.field == 0) then timed_out b x else x
 
+-- a timer that expires where the peer's window is 0 probes it
+abbrev pub is_probing : Block → Congestion → Bool
+is_probing b x = is_open b && (x.field == 0)
+
 abbrev pub reached : ℕ → Conn → Conn
-reached now c = record c { tcb = reaches now c.tcb; congestion = slowed c.tcb.retransmissions (reaches now c.tcb) c.congestion }
+reached now c =
+    let b = reaches now c.tcb in
+    record c {
+      tcb = b;
+      congestion = slowed c.tcb.retransmissions b c.congestion;
+      timing = expired c.tcb.retransmissions (is_probing b c.congestion) b c.timing;
+    }
 
 -- where the memory for text is tight, a block forgets what it holds behind a gap
 abbrev pub pruned : Bool → Block → Block
 pruned tight b = if tight then forgetting b else b
 
 -- and where the server drains, it closes (RFC 9293, 3.10.4): what it has to send goes first, and then its FIN. One that is half open stays so,
--- and one that closes stays as it is. Its service offers nothing more from then on
-unfoldable pub closed : Bool → Block → Block
-closed draining b = if draining then followed (λ c. c) (tcp_call Close b).verdict else b
+-- and one that closes stays as it is. Its service offers nothing more from then on. A timer that starts does so with this RTO
+unfoldable pub closed : ℕ → Bool → Block → Block
+closed rto draining b = if draining then retimed rto (mark_of b) (followed (λ c. c) (tcp_call Close b).verdict) else b
 
 -- nothing of that
 abbrev pub no_measures : Measures
@@ -171,7 +187,9 @@ no_measures = record { tight = false; draining = false }
 
 -- so the time comes at a tick
 abbrev pub ticked : Measures → ℕ → Conn → Conn
-ticked m now c = record (reached now c) { tcb = pruned m.tight (closed m.draining (reaches now c.tcb)) }
+ticked m now c =
+    let r = reached now c in
+    record r { tcb = pruned m.tight (closed (timeout r.timing) m.draining r.tcb) }
 
 -- what was sent leaves the block
 unfoldable pub emptied : Conn → Conn

@@ -3,6 +3,7 @@ pub mod Limits
 pub mod Initial
 pub mod Addresses
 pub mod Congestion
+pub mod Timing
 pub mod DaytimeText
 pub mod Services
 pub mod Acts

@@ -7,6 +7,7 @@ use Rattle.tcb_machine.specs.Shortening.{shortening}
 use Rattle.live_server.specs.Acts.{Meeting, resent, sent_by}
 use Rattle.live_server.specs.Congestion.{flight, is_open, restarted}
 use Rattle.live_server.specs.Limits.{header_bytes}
+use Rattle.live_server.specs.Timing.{unsampled}
 use Rattle.live_server.specs.declared.conn.Conn.{Conn}
 use Rattle.live_server.specs.declared.conn.Judged.TheVariants.{Taken}
 use Rattle.live_server.specs.declared.conn.Met.TheVariants.{Gone, Judged as judges}
@@ -26,6 +27,7 @@ shortened most c = record c {
   tcb = resent true (shortening most c.tcb);
   most = most;
   congestion = restarted (shortening most c.tcb) c.congestion;
+  timing = unsampled c.timing;
 }
 
 -- what becomes of a connection

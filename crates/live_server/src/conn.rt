@@ -1,7 +1,7 @@
 //! One connection: its block, and what the server keeps beside it.
 
 ghost use Rattle.std.specs.Prelude.{false, ◌≡◌, ◌==◌, ◌&&◌, ◌++◌, ◌≤◌, IfOk, None, OnErr, OnOk, Some, if◌then◌else◌};
-ghost use Rattle.live_server.specs.Acts.{after, allowed, challenged, closed, emptied, has_room, is_allowed, is_half_open, is_idle, is_outside, is_over, is_waited_for, judged, meets};
+ghost use Rattle.live_server.specs.Acts.{after, allowed, challenged, closed, emptied, has_room, is_allowed, is_half_open, is_idle, is_outside, is_over, is_probing, is_waited_for, judged, meets};
 ghost use Rattle.live_server.specs.Acts.{new_conn, oldest_ack, provokes, pruned, reached, receives, renewed, resent, sent_by, taken, takes, ticked, waited_for};
 ghost use Rattle.live_server.specs.Facts.{facts_of};
 ghost use Rattle.live_server.specs.Leaving.{is_given_up};
@@ -10,13 +10,16 @@ ghost use Rattle.tcb_machine.specs.BlockState.{rcv_nxt, rcv_wnd};
 ghost use Rattle.tcb_machine.specs.States.{is_listen};
 ghost use Rattle.tcb_machine.specs.TcpStep.{is_time_wait};
 ghost use Rattle.tcb_machine.specs.Room.{HasRoom};
-ghost use Rattle.tcb_machine.specs.Limits.{last_time};
+ghost use Rattle.tcb_machine.specs.CallAnswers.{tcp_call};
+ghost use Rattle.tcb_machine.specs.Limits.{last_time, longest_timeout};
+ghost use Rattle.echo_services.specs.Serving.{followed};
 
 use crate::acting::{Datagram, announced};
 use crate::congestion::{Congestion, flight, is_open};
 use crate::facts::Facts;
 use crate::measures::Measures;
 use crate::service::LiveService;
+use crate::timing::{Mark, Timing, retime};
 use echo_services::{serve, tick};
 use segment_codec::{ACK, RST, SYN, Seg};
 use sq_base::{Tuple, seq_dist};
@@ -45,6 +48,7 @@ pub struct Conn {
     /// Before this time no challenge is sent.
     pub quiet_until: u64,
     pub congestion: Congestion,
+    pub timing: Timing,
 }
 
 /// What becomes of a segment.
@@ -83,6 +87,7 @@ impl Conn {
             heard: now,
             quiet_until: 0,
             congestion: Congestion::fresh(),
+            timing: Timing::fresh(),
         }
     }
 
@@ -197,7 +202,7 @@ impl Conn {
         let again = self.congestion.calls_again(&self.tcb, seg);
         self.congestion.ease(&self.tcb, seg);
         let seen = self.congestion.seen(&self.tcb, seg);
-        let una = self.tcb.snd_una();
+        let before = Mark::of(&self.tcb);
         serve(
             &mut self.service,
             &mut self.tcb,
@@ -207,7 +212,9 @@ impl Conn {
             &seen,
             text,
         )?;
-        renew(&mut self.tcb, una, seg.wnd);
+        self.timing.follow(&self.tcb, before, now, again);
+        retime(&mut self.tcb, before, self.timing.timeout());
+        renew(&mut self.tcb, before.una, seg.wnd);
         resend(&mut self.tcb, alloc, again)?;
         self.heard = now;
         Ok(())
@@ -257,17 +264,26 @@ impl Conn {
         if self.tcb.clock() <= now {
             tick(&mut self.tcb, alloc, now)?;
         }
+        let probes = self.is_probing();
+        self.timing.expire(&self.tcb, before, probes);
         if before < self.tcb.retransmissions() && self.congestion.field != 0 {
             self.congestion.time_out(&self.tcb);
         }
         Ok(())
     }
 
+    /// Whether a timer that expires probes the peer's window, which is 0.
+    fn is_probing(&self) -> bool
+        ensures { result ≡ is_probing self.now.tcb self.now.congestion }
+    {
+        is_open(&self.tcb) && self.congestion.field == 0
+    }
+
     /// The number that the peer waits for, where its window is 0.
     fn waited_for(&self) -> Option<u32>
         ensures { result ≡ waited_for self.now }
     {
-        if is_open(&self.tcb) && self.congestion.field == 0 {
+        if self.is_probing() {
             Some(self.tcb.snd_una())
         } else {
             None
@@ -330,7 +346,12 @@ impl Conn {
         ensures wrote { OnErr result (HasSent out.old.items out.new.items (sent_by tuple.now (ticked measures now self.old))) }
     {
         self.reach(alloc, now)?;
-        close(&mut self.tcb, alloc, measures.draining)?;
+        close(
+            &mut self.tcb,
+            alloc,
+            measures.draining,
+            self.timing.timeout(),
+        )?;
         prune(&mut self.tcb, measures.tight);
         self.send(alloc, tuple, out)
     }
@@ -386,14 +407,25 @@ impl Conn {
     }
 }
 
-/// Where the server drains, a block closes. After an error nothing more is promised of it.
+/// Where the server drains, a block closes, and its timer, where it starts, does so with this RTO. After an error nothing more is promised of it.
 #[tactic(auto, unfolding(crate::specs::Acts::closed))]
-fn close(tcb: &mut Tcb, alloc: Global, draining: bool) -> Result<(), AllocError>
-    ensures { OnOk result (tcb.new ≡ closed draining tcb.old) }
+fn close(tcb: &mut Tcb, alloc: Global, draining: bool, rto: u64) -> Result<(), AllocError>
+    requires some { 1 ≤ rto }
+    requires most { rto ≤ longest_timeout }
+    ensures { OnOk result (tcb.new ≡ closed rto draining tcb.old) }
 {
-    if !draining {
-        return Ok(());
+    if draining {
+        let before = Mark::of(tcb);
+        call_close(tcb, alloc)?;
+        retime(tcb, before, rto);
     }
+    Ok(())
+}
+
+/// CLOSE, and what goes out behind it. After an error nothing more is promised of the block.
+fn call_close(tcb: &mut Tcb, alloc: Global) -> Result<(), AllocError>
+    ensures { OnOk result (tcb.new ≡ followed (λ c. c) (tcp_call Call.Close tcb.old).verdict) }
+{
     match tcb.call(alloc, Call::Close)?.1 {
         Next::Over => Ok(()),
         Next::Go => tcb.output(alloc),

@@ -27,6 +27,7 @@ mod service;
 mod setting;
 mod site;
 mod table;
+mod timing;
 mod unreached;
 
 pub use acting::Datagram;
@@ -50,4 +51,5 @@ pub use service::LiveService;
 pub use setting::Setting;
 pub use site::Site;
 pub use table::Table;
+pub use timing::{Mark, Sample, Timing, Trip};
 pub use unreached::Reported;

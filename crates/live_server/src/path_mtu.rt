@@ -73,6 +73,7 @@ impl Conn {
         self.tcb.shorten(most);
         self.most = most;
         self.congestion.restart(&self.tcb);
+        self.timing.forget();
         resend(&mut self.tcb, alloc, true)
     }
 }
