@@ -51,7 +51,7 @@ use Rattle.live_server.specs.declared.conn.Met.{Met}
 use Rattle.live_server.specs.declared.conn.Met.TheVariants.{Gone, Judged as judges}
 use Rattle.live_server.specs.declared.counts.Counts.{Counts}
 use Rattle.live_server.specs.declared.measures.Measures.{Measures}
-use Rattle.live_server.proofs.TableLemmas.{length_replaced, within_at}
+use Rattle.live_server.proofs.TableLemmas.{length_replaced, length_without, within_at}
 use Rattle.live_server.proofs.TickLemmas.{look_reached}
 use Rattle.live_server.proofs.TightLemmas.{was_reached}
 
