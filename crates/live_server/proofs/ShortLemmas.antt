@@ -27,7 +27,7 @@ use Rattle.echo_services.specs.Serving.{followed}
 use Rattle.echo_services.proofs.PumpsLemmas.{chargen-pumps, daytime-pumps, discard-pumps, echo-pumps}
 use Rattle.page_service.specs.Site.{site, site-sound}
 use Rattle.page_service.proofs.PumpsLemmas.{pump-pumps}
-use Rattle.live_server.specs.Acts.{after, allowed, bared, challenged, closed, is_allowed, is_outside, is_over, is_waited_for, judged, pruned, reaches, renewed, resent, taken}
+use Rattle.live_server.specs.Acts.{after, allowed, bared, challenged, closed, is_allowed, is_outside, is_over, is_waited_for, judged, pruned, reached, reaches, renewed, resent, taken}
 use Rattle.live_server.specs.Congestion.{calls_again, eased, seen}
 use Rattle.live_server.specs.DaytimeText.{daytime_text}
 use Rattle.live_server.specs.Promises.{NewIsShort, SegmentKeepsShort, TimeKeepsShort}

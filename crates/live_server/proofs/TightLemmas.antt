@@ -11,7 +11,7 @@ use Rattle.sq_base.specs.declared.kinds.Tuple.{Tuple}
 use Rattle.tcb_machine.specs.BlockState.{Block, held_in, rcv_nxt, rcv_wnd}
 use Rattle.tcb_machine.specs.Forgetting.{forgetting}
 use Rattle.tcb_machine.proofs.ForgettingLemmas.{forgetting-number, forgetting-order, forgetting-window}
-use Rattle.live_server.specs.Acts.{closed, emptied, is_over, pruned, reaches, ticked}
+use Rattle.live_server.specs.Acts.{closed, emptied, is_over, pruned, reached, reaches, ticked}
 use Rattle.live_server.specs.Isolation.{IsTable, conn_of, is_shed, staying}
 use Rattle.live_server.specs.Leaving.{is_leaving, without_leaving}
 use Rattle.live_server.specs.Promises.{TickKeepsOrder, TightHoldsOrder}
