@@ -211,7 +211,10 @@ fn measured(trip: Option<Trip>, round: u64) -> Trip
             rttvar: round / 2,
         },
         Some(old) => {
-            let apart = old.srtt.saturating_sub(round).max(round.saturating_sub(old.srtt));
+            let apart = old
+                .srtt
+                .saturating_sub(round)
+                .max(round.saturating_sub(old.srtt));
             Trip {
                 srtt: old.srtt - old.srtt / 8 + round / 8,
                 rttvar: old.rttvar - old.rttvar / 4 + apart / 4,
