@@ -8,10 +8,10 @@ use Rattle.perimeter_core.proofs.ActLists.{get_other, get_same}
 use Rattle.rtrb.specs.Ring.{received, sent}
 use Rattle.shards.specs.Mixing.{from_ring}
 use Rattle.shards.specs.declared.lanes.SqueueEnd.{SqueueEnd}
-use Rattle.shards.specs.Merging.{AreUnused, IsLogged, IsUnused, IsMerged, SameLane, SameLanes, TookOne, came_from, went_to}
+use Rattle.shards.specs.Merging.{AreUnused, IsLogged, IsUnused, IsMerged, Merges, SameLane, SameLanes, TookOne, came_from, went_to}
 use Rattle.shards.proofs.Mixed.{more_other, more_own}
 
-some_is : {A : Type 0} {x y : A} → Some x ≡ Some y → x ≡ y
+pub some_is : {A : Type 0} {x y : A} → Some x ≡ Some y → x ≡ y
 some_is is = cc is
 
 apart_by : (c p : ℕ) → (c == p) ≡ false → c ≢ p
@@ -23,6 +23,11 @@ apart_by c p is same = clash (eq-eqb c p same) is
 all_more : {A : Type 0} (P : A → Type 0) (xs : List A) (x : A) → AllByRecursion P xs → P x → AllByRecursion P (xs ++ x ∷ [])
 all_more P [] x all one = (one, tt)
 all_more P (y ∷ ys) x all one = (all.0, all_more P ys x all.1 one)
+
+set_again : {A : Type 0} (xs : List A) (c : ℕ) (x y : A) → slice_set (slice_set xs c x) c y ≡ slice_set xs c y
+set_again [] c x y = refl
+set_again (z ∷ xs) zero x y = refl
+set_again (z ∷ xs) (suc c) x y = ap (λ l. z ∷ l) (set_again xs c x y)
 
 module _ {T : Type 0} where
   unused_at : (ends : List (SqueueEnd T)) (p : ℕ) (end : SqueueEnd T) → AreUnused ends → slice_get ends p ≡ Some end → IsUnused end
@@ -81,6 +86,36 @@ module _ {T : Type 0} where
                 let apart : c ≢ p = apart_by c p other in
                 other_logged c p (took.came, took.went) m.log end apart (m.each p end (sym (get_other ends c p b apart) ∙ is))
 
+    pub merges_one : (c : ℕ) (a b : SqueueEnd T) (from to : S) → TookOne IsMade c a b from to → Merges IsMade c a b from to
+    merges_one c a b from to took ends at m = merged_more ends c a b from to at took m
+
+    -- its ends looked
+    pub merges_same : (c : ℕ) (a b : SqueueEnd T) (s : S) → received b.input ≡ received a.input → sent b.back ≡ sent a.back → Merges IsMade c a b s s
+    merges_same c a b s popped pushed ends at m =
+        record {
+          log = m.log;
+          each = each;
+          only = subst (λ (n : ℕ). AllByRecursion (λ (e : ℕ × (T × T)). e.0 < n) m.log) (sym (length-set ends c b)) m.only;
+          made = m.made;
+        }
+      where
+        each : (p : ℕ) (end : SqueueEnd T) → slice_get (slice_set ends c b) p ≡ Some end → IsLogged m.log p end
+        each p end is = go (c == p) refl
+          where
+            go : (d : Bool) → (c == p) ≡ d → IsLogged m.log p end
+            go true same =
+                let here : c ≡ p = eqb-true c p same in
+                let new : end ≡ b = some_is (sym is ∙ (ap (slice_get (slice_set ends c b)) (sym here) ∙ get_same ends c b (slice_get_within ends c a at))) in
+                let was = m.each c a at in
+                subst (λ (n : ℕ). IsLogged m.log n end) here
+                (subst (IsLogged m.log c) (sym new) (record { came = popped ∙ was.came; went = pushed ∙ was.went }))
+            go false other = m.each p end (sym (get_other ends c p b (apart_by c p other)) ∙ is)
+
+    pub merges_then : (c : ℕ) (a b d : SqueueEnd T) (r s t : S) → Merges IsMade c a b r s → Merges IsMade c b d s t → Merges IsMade c a d r t
+    merges_then c a b d r s t x y ends at m =
+        subst (λ (l : List (SqueueEnd T)). IsMerged IsMade l t) (set_again ends c b d)
+        (y (slice_set ends c b) (get_same ends c b (slice_get_within ends c a at)) (x ends at m))
+
     -- nothing came yet
     pub merged_none : (ends : List (SqueueEnd T)) (s : S) → AreUnused ends → IsMade [] s → IsMerged IsMade ends s
     merged_none ends s unused made =
@@ -91,7 +126,7 @@ module _ {T : Type 0} where
           made = made;
         }
 
-  joined : (x a b : SqueueEnd T) → SameLane x a → SameLane a b → SameLane x b
+  pub joined : (x a b : SqueueEnd T) → SameLane x a → SameLane a b → SameLane x b
   joined x a b ((i, j), (k, l)) ((m, n), (o, q)) =
       (((m.0 ∙ i.0, m.1 ∙ i.1, m.2 ∙ i.2, m.3 ∙ i.3), n ∙ j), ((o.0 ∙ k.0, o.1 ∙ k.1, o.2 ∙ k.2, o.3 ∙ k.3), q ∙ l))
 

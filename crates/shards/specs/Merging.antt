@@ -2,9 +2,12 @@
 -- it went back.
 use Rattle.std.specs.Prelude.{◌≡◌, ℕ, ◌<◌, Some, List, ◌∷◌, [], ◌++◌, length, map, slice_get, slice_set}
 use Rattle.std.specs.List.{AllByRecursion}
+use mathlib.Core.List.{IsPrefix}
 use Rattle.rtrb.specs.Ring.{SameConsumer, SameProducer, received, sent}
 use Rattle.shards.specs.Mixing.{from_ring}
+use Rattle.shards.specs.declared.lanes.RingEnd.{RingEnd}
 use Rattle.shards.specs.declared.lanes.SqueueEnd.{SqueueEnd}
+use Rattle.shards.specs.Lanes.{IsLane}
 
 module _ {T : Type 0} where
   -- the parcels of a ring as they came, and as they went back
@@ -34,6 +37,18 @@ module _ {T : Type 0} where
   SameLanes xs ys =
       (length xs ≡ length ys) × ((p : ℕ) (a b : SqueueEnd T) → slice_get xs p ≡ Some a → slice_get ys p ≡ Some b → SameLane a b)
 
+  -- this is the other end of the ring's lane
+  abbrev pub IsLaneAt : List (SqueueEnd T) → ℕ → RingEnd T → Type 0
+  IsLaneAt ends p ring = (end : SqueueEnd T) → slice_get ends p ≡ Some end → IsLane ring end
+
+  -- these were popped of the ring's lane
+  abbrev pub HasAll : List (SqueueEnd T) → ℕ → List T → Type 0
+  HasAll ends p all = (end : SqueueEnd T) → slice_get ends p ≡ Some end → received end.input ≡ all
+
+  -- the ring took a front of what was given back to it
+  abbrev pub GaveBack : List (SqueueEnd T) → ℕ → List T → Type 0
+  GaveBack ends p taken = (end : SqueueEnd T) → slice_get ends p ≡ Some end → IsPrefix taken (sent end.back)
+
   module _ {S : Type 0} (IsMade : List (ℕ × (T × T)) → S → Type 0) where
     -- there is a log of what came by all lanes and by no other, of which what is shared is made
     pub record IsMerged (ends : List (SqueueEnd T)) (shared : S) : Type 0 where
@@ -49,6 +64,11 @@ module _ {T : Type 0} where
       pub popped : received b.input ≡ received a.input ++ came ∷ []
       pub pushed : sent b.back ≡ sent a.back ++ went ∷ []
       pub taken : (log : List (ℕ × (T × T))) → IsMade log from → IsMade (log ++ (ring, (came, went)) ∷ []) to
+
+    -- what was done at the lane of a ring keeps this, whatever came by the others
+    abbrev pub Merges : ℕ → SqueueEnd T → SqueueEnd T → S → S → Type 0
+    Merges ring a b from to =
+        (ends : List (SqueueEnd T)) → slice_get ends ring ≡ Some a → IsMerged ends from → IsMerged (slice_set ends ring b) to
 
     -- the next parcel of the ring's lane was, and at the other lanes nothing was done
     pub record TakesOne (ring : ℕ) (before after : List (SqueueEnd T)) (from to : S) : Type 0 where

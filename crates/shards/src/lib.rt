@@ -19,6 +19,8 @@ mod lanes;
 mod shard;
 mod shared;
 mod taking;
+#[cfg(test)]
+mod tests;
 mod written;
 
 pub use counting::{Counted, Counting};

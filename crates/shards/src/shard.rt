@@ -1,12 +1,12 @@
 //! The resident of a squeue: what its rings share.
-ghost use Rattle.std.specs.Prelude.{◌≡◌, ◌<◌, ◌^◌, ◌∷◌, [], IfOk, length, slice_index};
+ghost use Rattle.std.specs.Prelude.{◌≡◌, ◌≢◌, ◌<◌, ◌^◌, ◌∷◌, [], ℕ, IfOk, length, slice_get, slice_index};
 ghost use Rattle.placed_parts.specs.Placing.{size_of};
 ghost use Rattle.shards.specs.Merging.{AreUnused, SameLanes};
 
 use crate::counting::{Counted, Counting};
-use crate::lanes::SqueueEnd;
+use crate::lanes::{RingEnd, SqueueEnd};
 use crate::shared::Shared;
-use crate::taking::take_next;
+use crate::taking::{take_all, take_next};
 use perimeter_core::{Known, Resident};
 use placed_parts::Places;
 use std::alloc::{AllocError, Global};
@@ -14,6 +14,19 @@ use std::sync::Wait;
 
 /// What the rings of a squeue share, and of each ring its lane's ends at this squeue. Connection p is ring p: a feed of it takes the
 /// next parcel of its lane. A ring has at most 2^32 - 1 feeds between two renewals of its part.
+///
+/// # Example
+///
+/// ```
+/// shard.feed(alloc, 0, 0);
+/// shard.feed(alloc, 1, 0);
+/// assert_eq!(rt; shard.shared().bytes(), b"abXY".as_slice());
+/// ...
+/// let _number = shard.take_out(0);
+/// ...
+/// shard.put_in(0, Counted::none());
+/// shard.feed(alloc, 0, 0);
+/// ```
 #[derive(Drop)]
 pub struct Shard<X: Shared + Drop, H: Wait + Drop> {
     numbers: Places<Counting>,
@@ -27,8 +40,10 @@ pub struct Shard<X: Shared + Drop, H: Wait + Drop> {
 
 impl<X: Shared + Drop, H: Wait + Drop> Shard<X, H> {
     ghost use Rattle.placed_parts.specs.Standing.{all_new};
+    ghost use Rattle.rtrb.specs.Ring.{ConsumerLooked, ProducerLooked, received, sent};
+    ghost use Rattle.shards.specs.Merging.{GaveBack, HasAll, IsLaneAt, IsMerged};
     ghost use Rattle.shards.specs.Numbering.{ring_limits};
-    ghost use Rattle.shards.specs.Sharing.{StandsFor, ends_of, first_ends, limits_for, rings_of, shared_of};
+    ghost use Rattle.shards.specs.Sharing.{StandsFor, ends_of, first_ends, limits_for, origin_of, rings_of, shared_of};
 
     /// All rings are here, one for each lane, and nothing came by any. After an error all is dropped.
     pub fn of(
@@ -73,6 +88,30 @@ impl<X: Shared + Drop, H: Wait + Drop> Shard<X, H> {
         &self.shared
     }
 
+    /// Takes all parcels of ring `p` that were pushed and not popped yet, and gives them back, where the ring's ends of the lane are at hand. It
+    /// isn't for a ring with feeds on their way, which would wait for parcels that are taken.
+    pub fn take_rest(&mut self, alloc: Global, p: u32, ring: &mut RingEnd<X::Parcel>)
+        requires range { p < rings_of self.old }
+        requires lane { IsLaneAt (ends_of self.old) p ring.old }
+        ensures all { HasAll (ends_of self.new) p (sent ring.old.output) }
+        ensures others { (q : ℕ) → q ≢ p → slice_get (ends_of self.new) q ≡ slice_get (ends_of self.old) q }
+        ensures rings { rings_of self.new ≡ rings_of self.old }
+        ensures origin { origin_of self.new ≡ origin_of self.old }
+        ensures merged { IsMerged X.is_made (ends_of self.old) (shared_of self.old) → IsMerged X.is_made (ends_of self.new) (shared_of self.new) }
+        ensures output { ProducerLooked ring.old.output ring.new.output }
+        ensures back { ConsumerLooked ring.old.back ring.new.back }
+        ensures front { GaveBack (ends_of self.new) p (received ring.old.back) }
+    {
+        take_all(
+            &self.rt,
+            alloc,
+            &mut self.shared,
+            &mut self.ends[p as usize],
+            ring,
+            p,
+        );
+    }
+
     /// What the rings shared, and the lanes' ends, where the resident is no more.
     pub fn into_parts(self) -> (X, Vec<SqueueEnd<X::Parcel>>)
         ensures shared { result.0 ≡ shared_of self }
@@ -92,11 +131,11 @@ impl<X: Shared + Drop, H: Wait + Drop> Resident for Shard<X, H> {
     ghost use Rattle.placed_parts.specs.PlaceLaws.{part_same, places_in_range, places_within, places_same_feeds};
     ghost use Rattle.shards.specs.Numbering.{had_of};
     ghost use Rattle.shards.specs.Merging.{TakesOne};
-    ghost use Rattle.shards.specs.Sharing.{StandsFor, ends_of, first_ends, limits_for, rings_of, shared_of};
+    ghost use Rattle.shards.specs.Sharing.{StandsFor, ends_of, limits_for, origin_of, rings_of, shared_of};
 
     type Part = Counted;
 
-    type Origin = Vec<SqueueEnd<X::Parcel>>;
+    type Origin = (X::Origin, Vec<SqueueEnd<X::Parcel>>);
 
     ghost stands = { StandsFor };
 
@@ -106,7 +145,7 @@ impl<X: Shared + Drop, H: Wait + Drop> Resident for Shard<X, H> {
 
     ghost size = { rings_of };
 
-    ghost origin = { first_ends };
+    ghost origin = { origin_of };
 
     ghost is_part_of = { λ _ _ _. Unit {0} };
 
@@ -126,7 +165,7 @@ impl<X: Shared + Drop, H: Wait + Drop> Resident for Shard<X, H> {
         ensures stands { (blocks : Blocks) → StandsFor self.old blocks → StandsFor self.new (with_feeds (Entry'.Feed c n ∷ []) blocks) }
         ensures limits { limits_for self.new ≡ limits_for self.old }
         ensures size { rings_of self.new ≡ rings_of self.old }
-        ensures origin { first_ends self.new ≡ first_ends self.old }
+        ensures origin { origin_of self.new ≡ origin_of self.old }
         ensures one { TakesOne X.is_made c (ends_of self.old) (ends_of self.new) (shared_of self.old) (shared_of self.new) }
     {
         self.numbers.feed(alloc, c, n);

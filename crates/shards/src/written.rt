@@ -36,6 +36,10 @@ impl Shared for Written {
 
     type Parcel = Vec<u8>;
 
+    type Origin = ();
+
+    ghost origin = { λ w. tt };
+
     ghost is_made = { IsWritten };
 
     fn take(&mut self, _alloc: Global, _ring: u32, parcel: &mut Vec<u8>) {
