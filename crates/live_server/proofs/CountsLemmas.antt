@@ -38,7 +38,7 @@ counts_short (c ∷ cs) =
 
 pub told_short : (a b c : ℕ) (d : Bool) (n : Counts) → length (counts_text (state_counts a b c d ++ named_counts n)) ≤ most_text
 told_short a b c d n =
-    let h : length (counts_text (state_counts a b c d ++ named_counts n)) ≤ 1725 = counts_short (state_counts a b c d ++ named_counts n) in
+    let h : length (counts_text (state_counts a b c d ++ named_counts n)) ≤ 1797 = counts_short (state_counts a b c d ++ named_counts n) in
     omega (arith, h)
 
 joined : (xs ys : List (List ℕ × ℕ)) → counts_text (xs ++ ys) ≡ counts_text xs ++ counts_text ys

@@ -98,14 +98,19 @@ CostsOf body before after =
     ((s : Seg) × (packet_in RawIp body true ≡ Segment s) × Costs s before after)
     ⊎ (((x : TooLong) × (too_long_in body ≡ Some x) × Loses x.ends before after) ⊎ (after ≡ before))
 
--- and all else stays, but who may have to give way, three counts, and what is held, to which no more comes than so much text
+-- and all else stays, but who may have to give way, four counts, and what is held, to which no more comes than so much text
 abbrev pub KeepsRest : ℕ → ServerOf → ServerOf → Type 0
 KeepsRest most before after =
     (after ≡ record before {
       conns = after.conns;
       waiting = after.waiting;
       held = after.held;
-      counts = record before.counts { refused = after.counts.refused; gave_way = after.counts.gave_way; over_full = after.counts.over_full };
+      counts = record before.counts {
+        refused = after.counts.refused;
+        gave_way = after.counts.gave_way;
+        over_full = after.counts.over_full;
+        urgent = after.counts.urgent;
+      };
     }) × (before.held ≤ after.held) × (after.held ≤ before.held + most)
 
 -- and what the time does: one connection is gone, and each other one is as it was, or as the time leaves it
