@@ -40,14 +40,14 @@ module _ (now : ℕ) (s : Seg) (text : List ℕ) (sv : ServerOf) where
   addressed_told pointer ours at_port e f = λ j. told_for pointer (e j) (f j)
 
 -- where urgent data ends is told to the segment's own connection
-pub urging_told : (pointer : ℕ) (s : Seg) (sv : ServerOf) (r : Option ℕ) → place_of (tuple_of s) sv.conns ≡ r
-    → told_urging (Some pointer) s sv ≡ option_map_or (λ place. hears (tuple_of s) ∷ []) r []
+pub urging_told : (pointer : Option ℕ) (p : ℕ) (s : Seg) (sv : ServerOf) (r : Option ℕ) → pointer ≡ Some p → place_of (tuple_of s) sv.conns ≡ r
+    → told_urging pointer s sv ≡ option_map_or (λ place. hears (tuple_of s) ∷ []) r []
 unfolding told_urging
-urging_told pointer s sv r at = ap (λ (o : Option ℕ). option_map_or (λ place. hears (tuple_of s) ∷ []) o []) at
+urging_told pointer p s sv r is at = ap (λ (o : Option ℕ). told_urging o s sv) is ∙ ap (λ (o : Option ℕ). option_map_or (λ place. hears (tuple_of s) ∷ []) o []) at
 
-pub unurged_told : (s : Seg) (sv : ServerOf) → told_urging None s sv ≡ []
+pub unurged_told : (pointer : Option ℕ) (s : Seg) (sv : ServerOf) → pointer ≡ None → told_urging pointer s sv ≡ []
 unfolding told_urging
-unurged_told s sv = refl
+unurged_told pointer s sv is = ap (λ (o : Option ℕ). told_urging o s sv) is
 
 -- whom a router's message is told
 pub path_told_by : (x : TooLong) (sv : ServerOf) (b : Bool) (r : Option ℕ) → is_to_us sv.setting x.src x.dst ≡ b → place_of x.ends sv.conns ≡ r

@@ -4,6 +4,7 @@ ghost use Rattle.std.specs.Prelude.{◌≡◌, ◌++◌, ◌∷◌, ◌≤◌, [
 ghost use Rattle.segment_codec.specs.Refusal.{tuple_of};
 ghost use Rattle.sq_base.specs.declared.kinds.Tuple.{Tuple};
 ghost use Rattle.tcb_machine.specs.Limits.{last_time};
+ghost use Rattle.tcb_machine.specs.TcpStep.{is_in_window};
 ghost use Rattle.live_server.specs.Acts.{emptied, sent_by};
 ghost use Rattle.live_server.specs.Isolation.{KeepsRest, Loses};
 ghost use Rattle.live_server.specs.Serving.{on_urgent, server_of, urges_at, urges_own};
@@ -168,7 +169,7 @@ fn last_of(seg: &Seg) -> u32
 /// Whether a number is in the window.
 #[tactic(auto, unfolding(tcb_machine::specs::TcpStep::is_in_window))]
 fn is_in_window(tcb: &Tcb, seq: u32) -> bool
-    ensures { result ≡ tcb_machine.specs.TcpStep.is_in_window seq tcb.now }
+    ensures { result ≡ is_in_window seq tcb.now }
 {
     seq_dist(tcb.rcv_nxt(), seq) < tcb.rcv_wnd()
 }
