@@ -173,7 +173,6 @@ segment_raises now iss s text c = by (judged now s text c)
     by Late = omega arith
 
 pub time_raises : TimeRaisesNone
-unfolding ticked
 time_raises measures now c = refl
 
 pub unflagged_nothing : UnflaggedSaysNothing
