@@ -11,7 +11,7 @@ use Rattle.sq_base.specs.declared.kinds.Tuple.{Tuple}
 use Rattle.tcb_machine.specs.BlockState.{has}
 use Rattle.live_server.specs.Acts.{after, allowed, bared, challenged, is_allowed, judged, reached, receives, taken, ticked}
 use Rattle.live_server.specs.Counting.{more}
-use Rattle.live_server.specs.Isolation.{IsTable, Loses, Stays, UrgentIsItsOwn, conn_of, kept_as}
+use Rattle.live_server.specs.Isolation.{IsTable, KeepsRest, Loses, Stays, UrgentIsItsOwn, conn_of, kept_as}
 use Rattle.live_server.specs.Promises.{Advances, SegmentRaisesNone, TimeRaisesNone, UnflaggedSaysNothing, UrgentAdvances}
 use Rattle.live_server.specs.Serving.{Outcome, ServerOf, becomes, counting_urgent, on_segment, on_urgent, sends_nothing, urges_at, urges_own}
 use Rattle.live_server.specs.Table.{Conns, conn_at, place_of, tuple_eq}
@@ -117,6 +117,20 @@ pub lost_urged : (now : ℕ) (pointer : Option ℕ) (s : Seg) (sv b c : ServerOf
 lost_urged now pointer s sv b c is loss =
     lost_after (tuple_of s) sv b c (λ table. subst (λ (x : ServerOf). IsTable x × ((q : Tuple) → tuple_eq (tuple_of s) q ≡ false → Stays q sv x)) (sym is)
     (urging_step now pointer s sv table)) loss
+
+pub urged_rest : (now : ℕ) (pointer : Option ℕ) (s : Seg) (sv : ServerOf) → KeepsRest 0 sv (urges_own now pointer s sv).server
+unfolding urges_own urges_at
+urged_rest now None s sv = (refl, omega arith, omega arith)
+urged_rest now (Some p) s sv = by (place_of (tuple_of s) sv.conns)
+  where
+    counted : (i : ℕ) (c : Conn) (m : Met) → KeepsRest 0 sv (becomes i (tuple_of s) c (counting_urgent m sv)).server
+    unfolding becomes
+    counted i c Gone = (refl, omega arith, omega arith)
+    counted i c (judges j) = (refl, omega arith, omega arith)
+
+    by : (r : Option ℕ) → KeepsRest 0 sv (option_map_or (λ place. urges_at now p s place sv) r (sends_nothing sv)).server
+    by None = (refl, omega arith, omega arith)
+    by (Some i) = counted i (urged now p s (conn_at i sv.conns)) (urges now p s (tuple_of s) (conn_at i sv.conns)).met
 
 -- ---- one connection
 urged_by : (now p : ℕ) (s : Seg) (c : Conn) (b : Bool) → is_news now p s c ≡ b → urged now p s c ≡ cond b (record c { urgent = ahead_by p s c.tcb }) c

@@ -484,8 +484,12 @@ pub(crate) fn is_consumed(state: State) -> bool
 pub(crate) fn read_nxt(tcb: &Tcb) -> u32
     ensures { result ≡ read_nxt tcb.now }
 {
-    let fin = u32::from(is_consumed(tcb.state()));
-    seq_dist(tcb.ready() + fin, tcb.rcv_nxt())
+    let unread = tcb.ready();
+    if is_consumed(tcb.state()) {
+        seq_dist(unread + 1, tcb.rcv_nxt())
+    } else {
+        seq_dist(unread, tcb.rcv_nxt())
+    }
 }
 
 /// Whether a block takes a segment at this time.

@@ -475,8 +475,7 @@ impl<T: ConnTable> Rules<T> {
             self.counts.astray = self.counts.astray.wrapping_add(1);
             Ok(())
         } else if is_served_at(&self.setting.ports, seg.dst_port) {
-            let seg = limited(seg, self.setting.segment);
-            self.urgent(alloc, now, pointer, &seg, text, out)
+            self.urgent(alloc, now, pointer, &limited(seg, self.setting.segment), text, out)
         } else {
             self.refuse(alloc, now, seg, out)
         }
