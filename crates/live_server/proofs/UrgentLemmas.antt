@@ -119,12 +119,11 @@ lost_urged now pointer s sv b c is loss =
     (urging_step now pointer s sv table)) loss
 
 pub urged_rest : (now : ℕ) (pointer : Option ℕ) (s : Seg) (sv : ServerOf) → KeepsRest 0 sv (urges_own now pointer s sv).server
-unfolding urges_own urges_at
+unfolding urges_own urges_at becomes
 urged_rest now None s sv = (refl, omega arith, omega arith)
 urged_rest now (Some p) s sv = by (place_of (tuple_of s) sv.conns)
   where
     counted : (i : ℕ) (c : Conn) (m : Met) → KeepsRest 0 sv (becomes i (tuple_of s) c (counting_urgent m sv)).server
-    unfolding becomes
     counted i c Gone = (refl, omega arith, omega arith)
     counted i c (judges j) = (refl, omega arith, omega arith)
 
