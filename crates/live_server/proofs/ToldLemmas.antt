@@ -15,7 +15,7 @@ use Rattle.live_server.specs.Addresses.{is_for_us, is_to_us}
 use Rattle.live_server.specs.Frames.{FrameOf, body_size, frame_at, frames_in, is_end, on_frame, rest_of, serves_frames}
 use Rattle.live_server.specs.Services.{is_served_at, service_at}
 use Rattle.live_server.specs.Serving.{ServerOf, limited, makes_place, served}
-use Rattle.live_server.specs.Told.{Told, told_addressed, told_datagram, told_frame, told_frames, told_other, told_packet, told_segment, told_taking, told_too_long, told_admitting, told_urgent, told_urging}
+use Rattle.live_server.specs.Told.{Told, told_addressed, told_datagram, told_frame, told_frames, told_other, told_packet, told_taking, told_too_long, told_admitting, told_urgent, told_urging}
 use Rattle.live_server.specs.Told.Told.{hears}
 use Rattle.live_server.specs.Table.{place_of}
 use Rattle.live_server.specs.Urgent.{as_reset, reset_text, urgent_in}

@@ -1,28 +1,24 @@
 -- Urgent data: whom it is told, and what it changes.
-use Rattle.std.proofs.Common.{◌≡◌, ℕ, ◌+◌, ◌-◌, ◌<◌, ◌≤◌, nat_le, nat_lt, ◌&&◌, not, Bool, true, false, cond, List, [], inl, length, Option, None, Some, refl, sym, ap, subst, ◌∙◌, arith, true≢false}
+use Rattle.std.proofs.Common.{◌≡◌, ℕ, ◌+◌, ◌<◌, ◌≤◌, nat_le, nat_lt, ◌&&◌, Bool, true, false, cond, List, [], inl, length, Option, None, Some, refl, sym, ap, subst, ◌∙◌, arith, true≢false}
 use Rattle.std.specs.Map.{lookup}
 use Rattle.std.specs.Option.{option_map_or}
-use Rattle.std.proofs.lemmas.Bool.{and_parts}
 use Rattle.std.proofs.lemmas.Bool.Decides.{nat_tests}
 use Rattle.segment_codec.specs.Places.{word}
 use Rattle.segment_codec.specs.Refusal.{tuple_of}
 use Rattle.segment_codec.specs.declared.packet.Seg.{Seg}
 use Rattle.sq_base.specs.declared.kinds.Tuple.{Tuple}
-use Rattle.tcb_machine.specs.BlockState.{has}
-use Rattle.live_server.specs.Acts.{after, allowed, bared, challenged, is_allowed, judged, reached, receives, taken, ticked}
+use Rattle.live_server.specs.Acts.{after, allowed, bared, challenged, is_allowed, judged, taken}
 use Rattle.live_server.specs.Counting.{more}
 use Rattle.live_server.specs.Isolation.{IsTable, KeepsRest, Loses, Stays, UrgentIsItsOwn, conn_of, kept_as}
 use Rattle.live_server.specs.Promises.{Advances, SegmentRaisesNone, TimeRaisesNone, UnflaggedSaysNothing, UrgentAdvances}
-use Rattle.live_server.specs.Serving.{Outcome, ServerOf, becomes, counting_urgent, on_segment, on_urgent, sends_nothing, urges_at, urges_own}
+use Rattle.live_server.specs.Serving.{Outcome, ServerOf, becomes, counting_urgent, sends_nothing, urges_at, urges_own}
 use Rattle.live_server.specs.Table.{Conns, conn_at, place_of, tuple_eq}
-use Rattle.live_server.specs.Urgent.{ahead_by, is_news, is_urging, tcp_at, urg, urged, urgent_in, urges}
+use Rattle.live_server.specs.Urgent.{ahead_by, is_news, is_urging, tcp_at, urged, urgent_in, urges}
 use Rattle.live_server.specs.declared.conn.Conn.{Conn}
 use Rattle.live_server.specs.declared.conn.Judged.{Judged}
 use Rattle.live_server.specs.declared.conn.Judged.TheVariants.{Challenged, Late, Taken, Unanswered}
 use Rattle.live_server.specs.declared.conn.Met.{Met}
 use Rattle.live_server.specs.declared.conn.Met.TheVariants.{Gone, Judged as judges}
-use Rattle.live_server.specs.declared.counts.Counts.{Counts}
-use Rattle.live_server.specs.declared.measures.Measures.{Measures}
 use Rattle.live_server.proofs.LawLemmas.{become_look, become_table, chosen, lost_after, placed_at}
 use Rattle.live_server.proofs.TableLemmas.{tuple_equivalence}
 

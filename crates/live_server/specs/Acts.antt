@@ -33,7 +33,6 @@ use Rattle.live_server.specs.declared.conn.Met.TheVariants.{Gone, Judged as judg
 use Rattle.live_server.specs.declared.measures.Measures.{Measures}
 use Rattle.live_server.specs.declared.service.LiveService.{LiveService}
 use Rattle.live_server.specs.declared.service.LiveService.TheVariants.{Discard}
-use Rattle.live_server.specs.declared.timing.Timing.{Timing}
 
 -- a connection that nothing is known of, with its service, and the most text that a segment may have on its path; it has no place yet, so no number
 abbrev pub new_conn : LiveService → ℕ → ℕ → Conn

@@ -475,7 +475,14 @@ impl<T: ConnTable> Rules<T> {
             self.counts.astray = self.counts.astray.wrapping_add(1);
             Ok(())
         } else if is_served_at(&self.setting.ports, seg.dst_port) {
-            self.urgent(alloc, now, pointer, &limited(seg, self.setting.segment), text, out)
+            self.urgent(
+                alloc,
+                now,
+                pointer,
+                &limited(seg, self.setting.segment),
+                text,
+                out,
+            )
         } else {
             self.refuse(alloc, now, seg, out)
         }
