@@ -8,10 +8,10 @@ use Rattle.live_server.specs.declared.conn.Conn.{Conn}
 use Rattle.live_server.specs.declared.conn.Met.{Met}
 use Rattle.live_server.specs.declared.measures.Measures.{Measures}
 use Rattle.squeue_streams.specs.Taking.{Takes, items_of, state_of}
-use Rattle.live_chats.specs.Hearing.{ChatOf, Hears, hearing, hearing_all, is_opening, losing, meeting, nobody, shortening, silent, timing}
+use Rattle.live_chats.specs.Hearing.{ChatOf, Hears, hearing, hearing_all, is_opening, losing, meeting, nobody, shortening, silent, timing, urging}
 use Rattle.live_chats.specs.Telling.{ItemsTell}
 use Rattle.live_chats.specs.declared.item.ChatItem.{ChatItem}
-use Rattle.live_chats.specs.declared.item.ChatItem.TheVariants.{Meets, Opens, Shortens, Time}
+use Rattle.live_chats.specs.declared.item.ChatItem.TheVariants.{Meets, Opens, Shortens, Time, Urges}
 
 -- nothing of the answer before stays
 pub hearing-silent : (x : ChatItem) (c : ChatOf) → hearing x (silent c) ≡ hearing x c
@@ -20,6 +20,7 @@ hearing-silent (Opens ends conn) c = refl
 hearing-silent (Meets now iss seg text) c =
     elim c.conn as (λ o. meeting (min now last_time) iss seg text.items o (silent c) ≡ meeting (min now last_time) iss seg text.items o c) [ None ↦ refl | Some d ↦ refl ]
 hearing-silent (Shortens seq most) c = elim c.conn as (λ o. shortening seq most o (silent c) ≡ shortening seq most o c) [ None ↦ refl | Some d ↦ refl ]
+hearing-silent (Urges now pointer seg) c = elim c.conn as (λ o. urging now pointer seg o (silent c) ≡ urging now pointer seg o c) [ None ↦ refl | Some d ↦ refl ]
 hearing-silent (Time measures now) c = elim c.conn as (λ o. timing measures (min now last_time) o (silent c) ≡ timing measures (min now last_time) o c) [ None ↦ refl | Some d ↦ refl ]
 
 -- an item doesn't lose memory
@@ -29,6 +30,7 @@ hearing-here (Opens ends conn) c here = refl
 hearing-here (Meets now iss seg text) c here =
     elim c.conn as (λ o. (meeting (min now last_time) iss seg text.items o c).lost ≡ false) [ None ↦ here | Some d ↦ here ]
 hearing-here (Shortens seq most) c here = elim c.conn as (λ o. (shortening seq most o c).lost ≡ false) [ None ↦ here | Some d ↦ here ]
+hearing-here (Urges now pointer seg) c here = elim c.conn as (λ o. (urging now pointer seg o c).lost ≡ false) [ None ↦ here | Some d ↦ here ]
 hearing-here (Time measures now) c here = elim c.conn as (λ o. (timing measures (min now last_time) o c).lost ≡ false) [ None ↦ here | Some d ↦ here ]
 
 pub hearing_all-here : (xs : List ChatItem) (c : ChatOf) → c.lost ≡ false → (hearing_all xs c).lost ≡ false
@@ -41,6 +43,7 @@ unfolding hearing
 opening_forgets (Opens ends conn) c d is = refl
 opening_forgets (Meets now iss seg text) c d is = absurd (true≢false (sym is))
 opening_forgets (Shortens seq most) c d is = absurd (true≢false (sym is))
+opening_forgets (Urges now pointer seg) c d is = absurd (true≢false (sym is))
 opening_forgets (Time measures now) c d is = absurd (true≢false (sym is))
 
 -- a segment, what a router says of one, and the time leave the ends
@@ -51,6 +54,10 @@ meets_keeps_ends now iss seg text c = elim c.conn as (λ o. (meeting (min now la
 pub shortens_keeps_ends : (seq most : ℕ) (c : ChatOf) → (hearing (Shortens seq most) c).ends ≡ c.ends
 unfolding hearing
 shortens_keeps_ends seq most c = elim c.conn as (λ o. (shortening seq most o c).ends ≡ c.ends) [ None ↦ refl | Some d ↦ refl ]
+
+pub urges_keeps_ends : (now pointer : ℕ) (seg : Seg) (c : ChatOf) → (hearing (Urges now pointer seg) c).ends ≡ c.ends
+unfolding hearing
+urges_keeps_ends now pointer seg c = elim c.conn as (λ o. (urging now pointer seg o c).ends ≡ c.ends) [ None ↦ refl | Some d ↦ refl ]
 
 pub time_keeps_ends : (measures : Measures) (now : ℕ) (c : ChatOf) → (hearing (Time measures now) c).ends ≡ c.ends
 unfolding hearing

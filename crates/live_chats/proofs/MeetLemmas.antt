@@ -9,6 +9,7 @@ use Rattle.sq_base.specs.declared.kinds.Tuple.{Tuple}
 use Rattle.tcb_machine.specs.Limits.{last_time}
 use Rattle.live_server.specs.Acts.{emptied, is_over, meets}
 use Rattle.live_server.specs.PathMtu.{shortens}
+use Rattle.live_server.specs.Urgent.{urges}
 use Rattle.live_server.specs.Table.{Conns, conn_at, place_of, replaced, settled, tuple_eq, without, IsNew}
 use Rattle.live_server.specs.Written.{HasSent}
 use Rattle.live_server.specs.declared.acting.Datagram.{Datagram}
@@ -19,7 +20,7 @@ use Rattle.live_server.proofs.MeetLemmas.{gone_is_over}
 use Rattle.live_server.proofs.TableLemmas.{conn_written, first_at, look_without, same, tuple_equivalence, within_at, without_set}
 use Rattle.live_chats.specs.Hearing.{ChatOf, conn_in, hearing, met_by}
 use Rattle.live_chats.specs.Seating.{Judges, MetAt, chat_of}
-use Rattle.live_chats.specs.declared.item.ChatItem.TheVariants.{Meets, Shortens}
+use Rattle.live_chats.specs.declared.item.ChatItem.TheVariants.{Meets, Shortens, Urges}
 
 -- a segment tells what became of it
 pub meets_judge : (now iss : ℕ) (seg : Seg) (text : Vec ℕ Global) → Judges (Meets now iss seg text)
@@ -86,6 +87,32 @@ module _ (seq most : ℕ) (t : Tuple) (d : Conn) where
 
     pub path_sent : after ≡ before ++ (shortens seq most t d).sent
     path_sent = met.sent ∙ ap (λ (c : ChatOf). before ++ c.sent) path_is
+
+pub urges_judge : (now pointer : ℕ) (seg : Seg) → Judges (Urges now pointer seg)
+unfolding hearing
+urges_judge now pointer seg t d = ((urges now pointer seg t d).met, refl)
+
+module _ (now pointer : ℕ) (seg : Seg) (t : Tuple) (d : Conn) where
+  urged_is : hearing (Urges now pointer seg) (chat_of t d) ≡ met_by (urges now pointer seg t d) (chat_of t d)
+  unfolding hearing
+  urged_is = refl
+
+  pub urged_partly : (before after : List Datagram) → HasSent before after (hearing (Urges now pointer seg) (chat_of t d)).sent → HasSent before after (urges now pointer seg t d).sent
+  urged_partly before after h = subst (λ (c : ChatOf). HasSent before after c.sent) urged_is h
+
+  module _ (i : ℕ) (m : Met) (was is : Conns) (before after : List Datagram) (met : MetAt (Urges now pointer seg) t d i m was is before after) where
+    pub urged_met : m ≡ (urges now pointer seg t d).met
+    urged_met = one (sym met.met ∙ ap (λ (c : ChatOf). c.met) urged_is)
+      where
+        one : Some m ≡ Some (urges now pointer seg t d).met → m ≡ (urges now pointer seg t d).met
+        one e = cc
+
+    pub urged_table : is ≡ replaced i (urges now pointer seg t d).conn was
+    unfolding replaced
+    urged_table = met.table ∙ ap (λ (c : ChatOf). settled i (set_value_at was i (conn_in c.conn))) urged_is
+
+    pub urged_sent : after ≡ before ++ (urges now pointer seg t d).sent
+    urged_sent = met.sent ∙ ap (λ (c : ChatOf). before ++ c.sent) urged_is
 
 -- who met nobody has left
 module _ (now iss : ℕ) (seg : Seg) (bytes : List ℕ) (t : Tuple) (was : Conns) (i : ℕ) (at : place_of t was ≡ Some i) (distinct : IsDistinct tuple_eq (keys_of was)) where

@@ -21,6 +21,7 @@ use Rattle.icmp_codec.specs.declared.too_long.TooLong.{TooLong}
 use Rattle.icmp_codec.specs.Unreachable.{unreachable_in}
 use Rattle.icmp_codec.specs.declared.unreachable.Unreachable.{Unreachable}
 use Rattle.live_server.specs.Unreached.{reported}
+use Rattle.live_server.specs.Urgent.{as_reset, reset_text, urged, urgent_in, urges}
 use Rattle.live_server.specs.declared.unreached.Reported.{Reported}
 use Rattle.live_server.specs.declared.unreached.Reported.TheVariants.{HalfOpen, Open, Stray}
 use Rattle.live_server.specs.Acts.{emptied, is_over, judged, reached, sent_by, closed, no_measures}
@@ -30,7 +31,7 @@ use Rattle.live_server.specs.Initial.{number_for}
 use Rattle.live_server.specs.Isolation.{conn_of, IsTable}
 use Rattle.live_server.specs.PathMtu.{path_told, shortens, text_in_mtu}
 use Rattle.live_server.specs.Services.{is_served_at}
-use Rattle.live_server.specs.Serving.{Outcome, ServerOf, addressed, becomes, comes, counting_path, echoes, fits, gives_way, goes_on, has_place, heeded, heeded_text, heeds, holding, is_echoed, is_waiting, judging, limited, makes_place, noting, numbered, on_datagram, on_other, on_packet, on_segment, on_too_long, opens as opening, overfull, passes_over, refused, sends_nothing, sends_of, served, shortens_at, takes_free, takes_place, tells_counts, time_to, turns_away, yielding, yields, yields_at, admits, obeys, caused, on_protocol, on_report, on_unreachable, refuses, unreached, unreached_at}
+use Rattle.live_server.specs.Serving.{Outcome, ServerOf, addressed, becomes, comes, counting_path, counting_urgent, echoes, fits, gives_way, goes_on, has_place, heeded, heeded_text, heeds, holding, is_echoed, is_waiting, judging, limited, makes_place, noting, numbered, on_datagram, on_other, on_packet, on_segment, on_too_long, opens as opening, overfull, passes_over, refused, sends_nothing, sends_of, served, shortens_at, takes_free, takes_place, tells_counts, time_to, turns_away, yielding, yields, yields_at, admits, obeys, caused, on_protocol, on_report, on_unreachable, refuses, unreached, unreached_at, on_urgent, urges_at, urges_own}
 use Rattle.live_server.specs.Orders.{order_in}
 use Rattle.live_server.specs.Table.{conn_at, place_of, tuple_eq, IsNew}
 use Rattle.live_server.specs.declared.conn.Conn.{Conn}
@@ -38,8 +39,8 @@ use Rattle.live_server.specs.declared.conn.Met.{Met}
 use Rattle.live_server.specs.declared.conn.Met.TheVariants.{Gone, Judged as judges}
 use Rattle.live_server.proofs.TableLemmas.{distinct_appended, distinct_replaced, distinct_without, first_at, length_replaced, length_without, look_appended, look_replaced, look_without, new_from_place, new_without, within_at}
 use Rattle.live_server.proofs.PlaceLemmas.{conn_looked}
-use Rattle.live_chats.specs.Chats.{Item, Step, becoming, fresh, leaves, opens, path, path_said, said, segment, segment_said, sends, tells, time, time_said}
-use Rattle.live_chats.specs.Ways.{way_addressed, way_comes, way_datagram, way_goes_on, way_heeds, way_opens, way_other, way_packet, way_segment, way_takes, way_time_to, way_too_long, way_yielding, way_yields, way_admits, way_protocol, way_report, way_unreachable, way_unreached}
+use Rattle.live_chats.specs.Chats.{Item, Step, becoming, fresh, leaves, opens, path, path_said, said, segment, segment_said, sends, tells, time, time_said, urgent, urgent_said}
+use Rattle.live_chats.specs.Ways.{way_addressed, way_urgent, way_urging, way_comes, way_datagram, way_goes_on, way_heeds, way_opens, way_other, way_packet, way_segment, way_takes, way_time_to, way_too_long, way_yielding, way_yields, way_admits, way_protocol, way_report, way_unreachable, way_unreached}
 use Rattle.live_chats.proofs.RunLemmas.{IsRight, chosen_right, moved_right, nothing_right, quiet_right, sent_shows, then_right, told_shows}
 
 -- ---- the connection at a place becomes another one
@@ -217,17 +218,55 @@ segment_right now s text sv table =
 pub quiet_counts : (sv new : ServerOf) → new.conns ≡ sv.conns → new.setting ≡ sv.setting → IsTable sv → IsRight sv [] (sends_nothing new)
 quiet_counts sv new same places table = record { shows = λ j. record { chats = λ q. lookup (tuple_eq q) (sym same j); sent = [] }; setting = places; table = quiet_right sv new same places table }
 
-pub addressed_right : (now : ℕ) (s : Seg) (text : List ℕ) (sv : ServerOf) → IsTable sv → IsRight sv (way_addressed now s text sv) (addressed now s text sv)
+-- where urgent data ends comes to the segment's own connection
+module _ (now pointer : ℕ) (s : Seg) (sv : ServerOf) (i : ℕ) (at : place_of (tuple_of s) sv.conns ≡ Some i) (table : IsTable sv) where
+  abbrev its_urgent : Item
+  its_urgent = urgent now pointer s
+
+  abbrev urged_conn : Conn
+  urged_conn = urged now pointer s (conn_at i sv.conns)
+
+  news_right : (m : Met) → IsRight sv (tells (tuple_of s) its_urgent ∷ []) (becomes i (tuple_of s) urged_conn (counting_urgent m sv))
+  news_right Gone =
+      becomes_right i (tuple_of s) urged_conn sv at table its_urgent (ap (λ (o : Option Conn). urgent_said (tuple_of s) now pointer s o) (conn_looked (tuple_of s) sv.conns i at))
+  news_right (judges j) =
+      let sv1 : ServerOf = counting_urgent (judges j) sv in
+      moved_right sv1 sv refl refl (tells (tuple_of s) its_urgent ∷ []) (becomes i (tuple_of s) urged_conn sv1)
+      (becomes_right i (tuple_of s) urged_conn sv1 at (record { once = table.once; bounded = table.bounded }) its_urgent
+      (ap (λ (o : Option Conn). urgent_said (tuple_of s) now pointer s o) (conn_looked (tuple_of s) sv.conns i at)))
+
+  urges_right : IsRight sv (tells (tuple_of s) its_urgent ∷ []) (urges_at now pointer s i sv)
+  unfolding urges_at
+  urges_right = news_right (urges now pointer s (tuple_of s) (conn_at i sv.conns)).met
+
+urging_right : (now : ℕ) (pointer : Option ℕ) (s : Seg) (sv : ServerOf) → IsTable sv → IsRight sv (way_urging now pointer s sv) (urges_own now pointer s sv)
+unfolding way_urging urges_own
+urging_right now None s sv table = quiet_counts sv sv refl refl table
+urging_right now (Some pointer) s sv table = by (place_of (tuple_of s) sv.conns) refl
+  where
+    by : (r : Option ℕ) → place_of (tuple_of s) sv.conns ≡ r
+        → IsRight sv (option_map_or (λ (place : ℕ). tells (tuple_of s) (urgent now pointer s) ∷ []) r []) (option_map_or (λ (place : ℕ). urges_at now pointer s place sv) r (sends_nothing sv))
+    by None at = quiet_counts sv sv refl refl table
+    by (Some i) at = urges_right now pointer s sv i at table
+
+pub urgent_right : (now : ℕ) (pointer : Option ℕ) (s : Seg) (text : List ℕ) (sv : ServerOf) → IsTable sv → IsRight sv (way_urgent now pointer s text sv) (on_urgent now pointer s text sv)
+unfolding way_urgent on_urgent
+urgent_right now pointer s text sv table =
+    let first = urging_right now pointer s sv table in
+    let here : ServerOf = (urges_own now pointer s sv).server in
+    then_right sv (way_urging now pointer s sv) (way_segment now s text here) (urges_own now pointer s sv) (on_segment now s text here) first (segment_right now s text here first.table)
+
+pub addressed_right : (now : ℕ) (pointer : Option ℕ) (s : Seg) (text : List ℕ) (sv : ServerOf) → IsTable sv → IsRight sv (way_addressed now pointer s text sv) (addressed now pointer s text sv)
 unfolding way_addressed addressed
-addressed_right now s text sv table =
+addressed_right now pointer s text sv table =
     let astray : ServerOf = record sv { counts = record sv.counts { astray = more 1 sv.counts.astray } } in
     let s1 : Seg = limited sv.setting.segment s in
     let elsewhere : Outcome = refuses now s sv in
-    chosen_right (not (is_for_us sv.setting s)) sv [] (cond (is_served_at sv.setting.ports s.dst_port) (way_segment now s1 text sv) (sends (refused now s) ∷ []))
-    (sends_nothing astray) (cond (is_served_at sv.setting.ports s.dst_port) (on_segment now s1 text sv) elsewhere)
+    chosen_right (not (is_for_us sv.setting s)) sv [] (cond (is_served_at sv.setting.ports s.dst_port) (way_urgent now pointer s1 text sv) (sends (refused now s) ∷ []))
+    (sends_nothing astray) (cond (is_served_at sv.setting.ports s.dst_port) (on_urgent now pointer s1 text sv) elsewhere)
     (quiet_counts sv astray refl refl table)
-    (chosen_right (is_served_at sv.setting.ports s.dst_port) sv (way_segment now s1 text sv) (sends (refused now s) ∷ []) (on_segment now s1 text sv) elsewhere
-    (segment_right now s1 text sv table)
+    (chosen_right (is_served_at sv.setting.ports s.dst_port) sv (way_urgent now pointer s1 text sv) (sends (refused now s) ∷ []) (on_urgent now pointer s1 text sv) elsewhere
+    (urgent_right now pointer s1 text sv table)
     (refuses_right now s sv table))
 
 -- what a router says comes to the connection at a place
@@ -335,7 +374,7 @@ report_right now body sv table = by (unreachable_in body)
 
 pub packet_right : (now : ℕ) (body : List ℕ) (p : Packet) (sv : ServerOf) → IsTable sv → IsRight sv (way_packet now body p sv) (on_packet now body p sv)
 unfolding way_packet on_packet
-packet_right now body (packet.Segment s) sv table = addressed_right now s (text_in s body) sv table
+packet_right now body (packet.Segment s) sv table = addressed_right now (urgent_in s body) (as_reset s) (reset_text s (text_in s body)) sv table
 packet_right now body packet.Other sv table = either (too_long_in body)
   where
     either : (r : Option TooLong)

@@ -5,6 +5,7 @@ use Rattle.sq_base.specs.declared.kinds.Tuple.{Tuple}
 use Rattle.live_server.specs.Acts.{emptied, new_conn, receives, sent_by, ticked}
 use Rattle.live_server.specs.Isolation.{conn_of, kept_as}
 use Rattle.live_server.specs.PathMtu.{path_told}
+use Rattle.live_server.specs.Urgent.{urged}
 use Rattle.live_server.specs.Services.{service_at}
 use Rattle.live_server.specs.Serving.{ServerOf}
 use Rattle.live_server.specs.Table.{tuple_eq}
@@ -22,6 +23,8 @@ pub data Item : Type 0 where
   segment : ℕ → ℕ → Seg → List ℕ → Item
   -- a router says that the segment of a number was longer than the next path takes
   path : ℕ → ℕ → Item
+  -- a segment with URG says where urgent data ends
+  urgent : ℕ → ℕ → Seg → Item
   -- the time comes, at a tick with what is asked of all
   time : Measures → ℕ → Item
 
@@ -47,6 +50,10 @@ abbrev pub path_said : Tuple → ℕ → ℕ → Option Conn → Said
 path_said t seq most None = record { conn = None; sent = [] }
 path_said t seq most (Some c) = becoming t (path_told seq most c)
 
+abbrev pub urgent_said : Tuple → ℕ → ℕ → Seg → Option Conn → Said
+urgent_said t now pointer s None = record { conn = None; sent = [] }
+urgent_said t now pointer s (Some c) = becoming t (urged now pointer s c)
+
 abbrev pub time_said : Tuple → Measures → ℕ → Option Conn → Said
 time_said t measures now None = record { conn = None; sent = [] }
 time_said t measures now (Some c) = becoming t (ticked measures now c)
@@ -56,6 +63,7 @@ said g t (opens c) o = record { conn = Some (emptied c); sent = sent_by t c }
 said g t leaves o = record { conn = None; sent = [] }
 said g t (segment now iss s text) o = segment_said g t now iss s text o
 said g t (path seq most) o = path_said t seq most o
+said g t (urgent now pointer s) o = urgent_said t now pointer s o
 said g t (time measures now) o = time_said t measures now o
 
 -- what stands at each two ends

@@ -5,12 +5,13 @@ use Rattle.sq_base.specs.declared.kinds.Tuple.{Tuple}
 use Rattle.tcb_machine.specs.Limits.{last_time}
 use Rattle.live_server.specs.Acts.{Meeting, emptied, meets, no_conn, sent_by, ticked}
 use Rattle.live_server.specs.PathMtu.{shortens}
+use Rattle.live_server.specs.Urgent.{urges}
 use Rattle.live_server.specs.declared.acting.Datagram.{Datagram}
 use Rattle.live_server.specs.declared.conn.Conn.{Conn}
 use Rattle.live_server.specs.declared.conn.Met.{Met}
 use Rattle.live_server.specs.declared.measures.Measures.{Measures}
 use Rattle.live_chats.specs.declared.item.ChatItem.{ChatItem}
-use Rattle.live_chats.specs.declared.item.ChatItem.TheVariants.{Meets, Opens, Shortens, Time}
+use Rattle.live_chats.specs.declared.item.ChatItem.TheVariants.{Meets, Opens, Shortens, Time, Urges}
 
 -- the two ends; the connection, where one began, also when it is over; what was sent at the last item, and, where that was a segment, what
 -- became of it; and whether memory was missing
@@ -48,6 +49,10 @@ abbrev pub shortening : ℕ → ℕ → Option Conn → ChatOf → ChatOf
 shortening seq most None c = silent c
 shortening seq most (Some d) c = met_by (shortens seq most c.ends d) c
 
+abbrev pub urging : ℕ → ℕ → Seg → Option Conn → ChatOf → ChatOf
+urging now pointer s None c = silent c
+urging now pointer s (Some d) c = met_by (urges now pointer s c.ends d) c
+
 abbrev pub timing : Measures → ℕ → Option Conn → ChatOf → ChatOf
 timing measures now None c = silent c
 timing measures now (Some d) c = timed (ticked measures now d) c
@@ -57,6 +62,7 @@ abbrev pub is_opening : ChatItem → Bool
 is_opening (Opens ends conn) = true
 is_opening (Meets now iss seg text) = false
 is_opening (Shortens seq most) = false
+is_opening (Urges now pointer seg) = false
 is_opening (Time measures now) = false
 
 -- What an item makes of a chat. One that begins a connection makes the same of every chat, also of one that was lost
@@ -64,6 +70,7 @@ unfoldable pub hearing : ChatItem → ChatOf → ChatOf
 hearing (Opens ends conn) c = record { ends = ends; conn = Some conn.value; sent = []; met = None; lost = false }
 hearing (Meets now iss seg text) c = meeting (min now last_time) iss seg text.items c.conn c
 hearing (Shortens seq most) c = shortening seq most c.conn c
+hearing (Urges now pointer seg) c = urging now pointer seg c.conn c
 hearing (Time measures now) c = timing measures (min now last_time) c.conn c
 
 -- one after another

@@ -15,6 +15,7 @@ use Rattle.icmp_codec.specs.declared.too_long.TooLong.{TooLong}
 use Rattle.icmp_codec.specs.Unreachable.{unreachable_in}
 use Rattle.icmp_codec.specs.declared.unreachable.Unreachable.{Unreachable}
 use Rattle.live_server.specs.Unreached.{reported}
+use Rattle.live_server.specs.Urgent.{as_reset, reset_text, urgent_in}
 use Rattle.live_server.specs.declared.unreached.Reported.{Reported}
 use Rattle.live_server.specs.declared.unreached.Reported.TheVariants.{HalfOpen, Open, Stray}
 use Rattle.udp_codec.specs.ReadAgain.{text_in as ordered_text}
@@ -28,11 +29,11 @@ use Rattle.live_server.specs.PathMtu.{text_in_mtu}
 use Rattle.live_server.specs.Orders.{order_in}
 use Rattle.live_server.specs.Services.{is_served_at}
 use Rattle.live_server.specs.Serving.{Outcome, ServerOf, echoes, has_place, heeded, heeded_text, is_echoed, is_waiting, limited, makes_place, measures_of, obeys}
-use Rattle.live_server.specs.Serving.{noting, numbered, refused, served, time_to, yields}
+use Rattle.live_server.specs.Serving.{noting, numbered, refused, served, time_to, urges_own, yields}
 use Rattle.live_server.specs.Table.{Conns, all_reached, conn_at, place_of, without_over}
 use Rattle.live_server.specs.declared.conn.Conn.{Conn}
 use Rattle.live_server.specs.declared.setting.Setting.{Setting}
-use Rattle.live_chats.specs.Chats.{Step, chats_of, fresh, leaves, opens, path, runs, segment, sends, tells, time}
+use Rattle.live_chats.specs.Chats.{Step, chats_of, fresh, leaves, opens, path, runs, segment, sends, tells, time, urgent}
 use Rattle.live_server.specs.declared.measures.Measures.{Measures}
 
 -- the connection of two ends gives way, where it is half open and was opened with this number
@@ -70,10 +71,18 @@ way_time_to now t sv = option_map_or (λ place. tells t (time no_measures now) �
 unfoldable pub way_segment : ℕ → Seg → List ℕ → ServerOf → List Step
 way_segment now s text sv = way_time_to now (tuple_of s) sv ++ way_heeds now s text (time_to now (tuple_of s) sv).server
 
-unfoldable pub way_addressed : ℕ → Seg → List ℕ → ServerOf → List Step
-way_addressed now s text sv =
+-- where urgent data ends is told to the segment's own connection
+unfoldable pub way_urging : ℕ → Option ℕ → Seg → ServerOf → List Step
+way_urging now None s sv = []
+way_urging now (Some pointer) s sv = option_map_or (λ place. tells (tuple_of s) (urgent now pointer s) ∷ []) (place_of (tuple_of s) sv.conns) []
+
+unfoldable pub way_urgent : ℕ → Option ℕ → Seg → List ℕ → ServerOf → List Step
+way_urgent now pointer s text sv = way_urging now pointer s sv ++ way_segment now s text (urges_own now pointer s sv).server
+
+unfoldable pub way_addressed : ℕ → Option ℕ → Seg → List ℕ → ServerOf → List Step
+way_addressed now pointer s text sv =
     if not (is_for_us sv.setting s) then []
-    else if is_served_at sv.setting.ports s.dst_port then way_segment now (limited sv.setting.segment s) text sv
+    else if is_served_at sv.setting.ports s.dst_port then way_urgent now pointer (limited sv.setting.segment s) text sv
     else sends (refused now s) ∷ []
 
 unfoldable pub way_too_long : TooLong → ServerOf → List Step
@@ -102,7 +111,7 @@ unfoldable pub way_report : ℕ → List ℕ → ServerOf → List Step
 way_report now body sv = option_map_or (λ x. way_unreachable x sv) (unreachable_in body) (way_protocol now body sv)
 
 unfoldable pub way_packet : ℕ → List ℕ → Packet → ServerOf → List Step
-way_packet now body (packet.Segment s) sv = way_addressed now s (text_in s body) sv
+way_packet now body (packet.Segment s) sv = way_addressed now (urgent_in s body) (as_reset s) (reset_text s (text_in s body)) sv
 way_packet now body packet.Other sv = option_map_or (λ x. way_too_long x sv) (too_long_in body) (way_report now body sv)
 way_packet now body packet.Fragment sv = []
 way_packet now body packet.Cut sv = []

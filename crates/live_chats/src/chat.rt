@@ -3,7 +3,7 @@
 ghost use Rattle.std.specs.Prelude.{◌≡◌, ◌≤◌, ◌||◌, [], None, OnErr, OnOk, false, not};
 ghost use Rattle.std.specs.Option.{option_copied};
 ghost use Rattle.tcb_machine.specs.Limits.{last_time};
-ghost use Rattle.live_chats.specs.Hearing.{Hears, hearing, is_opening, losing, meeting, nobody, shortening, timing};
+ghost use Rattle.live_chats.specs.Hearing.{Hears, hearing, is_opening, losing, meeting, nobody, shortening, timing, urging};
 
 use crate::item::ChatItem;
 use live_server::{Conn, Datagram, Measures, Met};
@@ -131,6 +131,7 @@ impl Chat {
                 text,
             } => self.meet(alloc, now.min(LAST_TIME), iss, &seg, text.as_slice()),
             ChatItem::Shortens { seq, most } => self.shorten(alloc, seq, most),
+            ChatItem::Urges { now, pointer, seg } => self.urge(alloc, now, pointer, &seg),
             ChatItem::Time { measures, now } => self.time(alloc, measures, now.min(LAST_TIME)),
         }
     }
@@ -172,6 +173,23 @@ impl Chat {
         };
         let ends = self.ends;
         let met = conn.shorten(alloc, seq, most, &ends, &mut self.sent)?;
+        self.conn = Some(conn);
+        self.met = Some(met);
+        Ok(())
+    }
+
+    // A segment says where urgent data ends.
+    fn urge(&mut self, alloc: Global, now: u64, pointer: u16, seg: &Seg) -> Result<(), AllocError>
+        requires sent { self.old.sent ≡ [] }
+        requires met { self.old.met ≡ None }
+        ensures hears { OnOk result (self.new ≡ urging now pointer seg.now self.old.conn self.old) }
+        ensures ends { OnErr result (self.new.ends ≡ self.old.ends) }
+    {
+        let Some(mut conn) = replace(&mut self.conn, None) else {
+            return Ok(());
+        };
+        let ends = self.ends;
+        let met = conn.urge(alloc, now, pointer, seg, &ends, &mut self.sent)?;
         self.conn = Some(conn);
         self.met = Some(met);
         Ok(())

@@ -27,6 +27,12 @@ pub enum ChatItem {
         seq: u32,
         most: u16,
     },
+    /// A segment with URG says where urgent data ends.
+    Urges {
+        now: u64,
+        pointer: u16,
+        seg: Seg,
+    },
     /// The time comes at a tick, with what is asked of each connection.
     Time {
         measures: Measures,

@@ -259,6 +259,40 @@ impl<'q, H: Wait + Drop, W: Wait, N: Closes> ConnTable
         }
     }
 
+    fn urge(
+        &mut self,
+        place: usize,
+        alloc: Global,
+        now: u64,
+        pointer: u16,
+        seg: &Seg,
+        _tuple: &Tuple,
+        out: &mut Vec<Datagram>,
+    ) -> Result<Met, AllocError> {
+        let item = ChatItem::Urges {
+            now,
+            pointer,
+            seg: *seg,
+        };
+        let pass = take_pass(&mut self.pass);
+        let (pass, met) = meet_at(
+            &self.line,
+            alloc,
+            pass,
+            &mut self.stays,
+            &mut self.seats,
+            &mut self.free,
+            place,
+            item,
+            out,
+        );
+        put_pass(&mut self.pass, pass);
+        match met {
+            Some(met) => Ok(met),
+            None => Err(AllocError),
+        }
+    }
+
     fn reach_all(
         &mut self,
         alloc: Global,

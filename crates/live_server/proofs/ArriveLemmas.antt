@@ -349,7 +349,12 @@ rest_on n more most before mid after sum one other = (
     conns = after.conns;
     waiting = after.waiting;
     held = after.held;
-    counts = record v.counts { refused = after.counts.refused; gave_way = after.counts.gave_way; over_full = after.counts.over_full };
+    counts = record v.counts {
+      refused = after.counts.refused;
+      gave_way = after.counts.gave_way;
+      over_full = after.counts.over_full;
+      urgent = after.counts.urgent;
+    };
   }) one.0,
   omega (arith, one.1, other.1),
   omega (arith, sum, one.2, other.2),

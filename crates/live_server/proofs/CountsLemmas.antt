@@ -38,7 +38,7 @@ counts_short (c ∷ cs) =
 
 pub told_short : (a b c : ℕ) (d : Bool) (n : Counts) → length (counts_text (state_counts a b c d ++ named_counts n)) ≤ most_text
 told_short a b c d n =
-    let h : length (counts_text (state_counts a b c d ++ named_counts n)) ≤ 1725 = counts_short (state_counts a b c d ++ named_counts n) in
+    let h : length (counts_text (state_counts a b c d ++ named_counts n)) ≤ 1797 = counts_short (state_counts a b c d ++ named_counts n) in
     omega (arith, h)
 
 joined : (xs ys : List (List ℕ × ℕ)) → counts_text (xs ++ ys) ≡ counts_text xs ++ counts_text ys
@@ -52,3 +52,10 @@ then_told t u xs ys before is = is ∙ ap (λ l. l ++ counts_text ys) before ∙
 pub three_told : (t0 t1 t2 t3 a b d : List ℕ) → t1 ≡ t0 ++ a → t2 ≡ t1 ++ b → t3 ≡ t2 ++ d → t3 ≡ t0 ++ (a ++ (b ++ (d ++ [])))
 three_told t0 t1 t2 t3 a b d one two three =
     three ∙ ap (λ l. l ++ d) (two ∙ ap (λ l. l ++ b) one) ∙ append_assoc (t0 ++ a) b d ∙ append_assoc t0 a (b ++ d) ∙ ap (λ l. t0 ++ (a ++ (b ++ l))) (sym (append-nil d))
+
+pub four_told : (t0 t1 t2 t3 t4 a b d e : List ℕ) → t1 ≡ t0 ++ a → t2 ≡ t1 ++ b → t3 ≡ t2 ++ d → t4 ≡ t3 ++ e → t4 ≡ t0 ++ (a ++ (b ++ (d ++ (e ++ []))))
+four_told t0 t1 t2 t3 t4 a b d e one two three four =
+    four ∙ ap (λ l. l ++ e) (three_told t0 t1 t2 t3 a b d one two three) ∙ regrouped
+  where
+    regrouped : (t0 ++ (a ++ (b ++ (d ++ [])))) ++ e ≡ t0 ++ (a ++ (b ++ (d ++ (e ++ []))))
+    regrouped = simp (append_assoc, append-nil)

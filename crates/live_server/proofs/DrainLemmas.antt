@@ -37,7 +37,8 @@ use Rattle.live_server.specs.Orders.{order_in}
 use Rattle.live_server.specs.PathMtu.{shortens, text_in_mtu}
 use Rattle.live_server.specs.Services.{is_served_at}
 use Rattle.live_server.specs.Unreached.{reported}
-use Rattle.live_server.specs.Serving.{ServerOf, addressed, admits, becomes, caused, comes, counting_path, echoes, fits, goes_on, heeded, heeded_text, heeds, holding, is_echoed, judging, limited, measures_of, noting, obeys, on_datagram, on_other, on_packet, on_protocol, on_report, on_segment, on_too_long, on_unreachable, opens, overfull, passes_over, refuses, sends_nothing, served, shortens_at, tells_counts, time_to, unreached, unreached_at}
+use Rattle.live_server.specs.Urgent.{as_reset, reset_text, urgent_in, urges}
+use Rattle.live_server.specs.Serving.{ServerOf, addressed, admits, becomes, caused, comes, counting_path, counting_urgent, on_urgent, urges_at, urges_own, echoes, fits, goes_on, heeded, heeded_text, heeds, holding, is_echoed, judging, limited, measures_of, noting, obeys, on_datagram, on_other, on_packet, on_protocol, on_report, on_segment, on_too_long, on_unreachable, opens, overfull, passes_over, refuses, sends_nothing, served, shortens_at, tells_counts, time_to, unreached, unreached_at}
 use Rattle.live_server.specs.Table.{all_reached, conn_at, place_of, tuple_eq}
 use Rattle.live_server.specs.Timing.{is_started, mark_of, retimed, timeout}
 use Rattle.live_server.specs.declared.timing.Mark.{Mark}
@@ -122,16 +123,46 @@ segment_none now s text sv e =
     let timed = timed_none now (tuple_of s) sv e in
     none_on sv first (heeds now s text first).server timed (heeded_none now s text first timed.drains)
 
-addressed_none : (now : ℕ) (s : Seg) (text : List ℕ) (sv : ServerOf) → sv.draining ≡ true → OpensNone sv (addressed now s text sv).server
+urged_none : (now pointer : ℕ) (s : Seg) (i : ℕ) (sv : ServerOf) → place_of (tuple_of s) sv.conns ≡ Some i → sv.draining ≡ true → OpensNone sv (urges_at now pointer s i sv).server
+unfolding urges_at
+urged_none now pointer s i sv at e = by (urges now pointer s (tuple_of s) (conn_at i sv.conns)).met
+  where
+    its : Conn
+    its = (urges now pointer s (tuple_of s) (conn_at i sv.conns)).conn
+
+    counted : (sv1 : ServerOf) → OpensNone sv sv1 → place_of (tuple_of s) sv1.conns ≡ Some i → OpensNone sv (becomes i (tuple_of s) its sv1).server
+    counted sv1 none there = none_on sv sv1 (becomes i (tuple_of s) its sv1).server none (became_none i (tuple_of s) its sv1 there none.drains)
+
+    by : (m : Met) → OpensNone sv (becomes i (tuple_of s) its (counting_urgent m sv)).server
+    by Gone = counted sv (quiet sv sv e refl refl refl) at
+    by (judges j) = counted (counting_urgent (judges j) sv) (quiet sv (counting_urgent (judges j) sv) e refl refl refl) at
+
+urging_none : (now : ℕ) (pointer : Option ℕ) (s : Seg) (sv : ServerOf) → sv.draining ≡ true → OpensNone sv (urges_own now pointer s sv).server
+unfolding urges_own
+urging_none now None s sv e = quiet sv sv e refl refl refl
+urging_none now (Some pointer) s sv e = by (place_of (tuple_of s) sv.conns) refl
+  where
+    by : (r : Option ℕ) → place_of (tuple_of s) sv.conns ≡ r → OpensNone sv (option_map_or (λ place. urges_at now pointer s place sv) r (sends_nothing sv)).server
+    by None at = quiet sv sv e refl refl refl
+    by (Some i) at = urged_none now pointer s i sv at e
+
+urgent_none : (now : ℕ) (pointer : Option ℕ) (s : Seg) (text : List ℕ) (sv : ServerOf) → sv.draining ≡ true → OpensNone sv (on_urgent now pointer s text sv).server
+unfolding on_urgent
+urgent_none now pointer s text sv e =
+    let here = (urges_own now pointer s sv).server in
+    let first = urging_none now pointer s sv e in
+    none_on sv here (on_segment now s text here).server first (segment_none now s text here first.drains)
+
+addressed_none : (now : ℕ) (pointer : Option ℕ) (s : Seg) (text : List ℕ) (sv : ServerOf) → sv.draining ≡ true → OpensNone sv (addressed now pointer s text sv).server
 unfolding addressed
-addressed_none now s text sv e = by (not (is_for_us sv.setting s)) (is_served_at sv.setting.ports s.dst_port)
+addressed_none now pointer s text sv e = by (not (is_for_us sv.setting s)) (is_served_at sv.setting.ports s.dst_port)
   where
     s1 : Seg
     s1 = limited sv.setting.segment s
 
-    by : (a b : Bool) → OpensNone sv (cond a (sends_nothing (record sv { counts = record sv.counts { astray = more 1 sv.counts.astray } })) (cond b (on_segment now s1 text sv) (refuses now s sv))).server
+    by : (a b : Bool) → OpensNone sv (cond a (sends_nothing (record sv { counts = record sv.counts { astray = more 1 sv.counts.astray } })) (cond b (on_urgent now pointer s1 text sv) (refuses now s sv))).server
     by true b = quiet sv _ e refl refl refl
-    by false true = segment_none now s1 text sv e
+    by false true = urgent_none now pointer s1 text sv e
     by false false = quiet sv (refuses now s sv).server e refl refl refl
 
 other_none : (now : ℕ) (p : Option PingOf) (sv : ServerOf) → sv.draining ≡ true → OpensNone sv (on_other now p sv).server
@@ -224,7 +255,7 @@ report_none now body sv e = by (unreachable_in body)
 
 packet_none : (now : ℕ) (body : List ℕ) (p : Packet) (sv : ServerOf) → sv.draining ≡ true → OpensNone sv (on_packet now body p sv).server
 unfolding on_packet
-packet_none now body (packet.Segment s) sv e = addressed_none now s (text_in s body) sv e
+packet_none now body (packet.Segment s) sv e = addressed_none now (urgent_in s body) (as_reset s) (reset_text s (text_in s body)) sv e
 packet_none now body packet.Other sv e = by (too_long_in body)
   where
     by : (r : Option TooLong) → OpensNone sv (option_map_or (λ x. on_too_long x sv) r (on_report now body sv)).server

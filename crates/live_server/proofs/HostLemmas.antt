@@ -24,9 +24,10 @@ use Rattle.live_server.specs.Draining.{HostDrains, OrdersDrain, TimeKeepsDrain}
 use Rattle.live_server.specs.Orders.{order_in}
 use Rattle.live_server.specs.PathMtu.{shortens, text_in_mtu}
 use Rattle.live_server.specs.Services.{is_served_at, service_at}
-use Rattle.live_server.specs.Serving.{ServerOf, addressed, admits, becomes, comes, counting_path, echoes, fits, gives_way, goes_on, has_place, heeded, heeded_text, heeds, holding, is_echoed, is_waiting, limited, makes_place, noting, obeys, on_datagram, on_other, on_packet, on_protocol, on_report, on_segment, on_time, on_too_long, on_unreachable, opens, overfull, passes_over, refuses, sends_nothing, sends_of, served, shortens_at, takes_free, takes_place, tells_counts, time_to, turns_away, unreached, unreached_at, yielding, yields, yields_at}
+use Rattle.live_server.specs.Serving.{ServerOf, addressed, admits, becomes, comes, counting_path, counting_urgent, on_urgent, urges_at, urges_own, echoes, fits, gives_way, goes_on, has_place, heeded, heeded_text, heeds, holding, is_echoed, is_waiting, limited, makes_place, noting, obeys, on_datagram, on_other, on_packet, on_protocol, on_report, on_segment, on_time, on_too_long, on_unreachable, opens, overfull, passes_over, refuses, sends_nothing, sends_of, served, shortens_at, takes_free, takes_place, tells_counts, time_to, turns_away, unreached, unreached_at, yielding, yields, yields_at}
 use Rattle.live_server.specs.Table.{conn_at, place_of}
 use Rattle.live_server.specs.Unreached.{reported}
+use Rattle.live_server.specs.Urgent.{as_reset, reset_text, urgent_in, urges}
 use Rattle.live_server.specs.declared.conn.Conn.{Conn}
 use Rattle.live_server.specs.declared.unreached.Reported.{Reported}
 use Rattle.live_server.specs.declared.unreached.Reported.TheVariants.{HalfOpen, Open, Stray}
@@ -105,16 +106,33 @@ segment_drains : (now : ℕ) (s : Seg) (text : List ℕ) (sv : ServerOf) → (on
 unfolding on_segment
 segment_drains now s text sv = heeded_drains now s text (time_to now (tuple_of s) sv).server ∙ timed_drains now (tuple_of s) sv
 
-addressed_drains : (now : ℕ) (s : Seg) (text : List ℕ) (sv : ServerOf) → (addressed now s text sv).server.draining ≡ sv.draining
+urging_drains : (now : ℕ) (pointer : Option ℕ) (s : Seg) (sv : ServerOf) → (urges_own now pointer s sv).server.draining ≡ sv.draining
+unfolding urges_own urges_at becomes
+urging_drains now None s sv = refl
+urging_drains now (Some pointer) s sv = by (place_of (tuple_of s) sv.conns)
+  where
+    counted : (m : Met) → (counting_urgent m sv).draining ≡ sv.draining
+    counted Gone = refl
+    counted (judges j) = refl
+
+    by : (r : Option ℕ) → (option_map_or (λ place. urges_at now pointer s place sv) r (sends_nothing sv)).server.draining ≡ sv.draining
+    by None = refl
+    by (Some i) = counted (urges now pointer s (tuple_of s) (conn_at i sv.conns)).met
+
+urgent_drains : (now : ℕ) (pointer : Option ℕ) (s : Seg) (text : List ℕ) (sv : ServerOf) → (on_urgent now pointer s text sv).server.draining ≡ sv.draining
+unfolding on_urgent
+urgent_drains now pointer s text sv = segment_drains now s text (urges_own now pointer s sv).server ∙ urging_drains now pointer s sv
+
+addressed_drains : (now : ℕ) (pointer : Option ℕ) (s : Seg) (text : List ℕ) (sv : ServerOf) → (addressed now pointer s text sv).server.draining ≡ sv.draining
 unfolding addressed
-addressed_drains now s text sv = by (not (is_for_us sv.setting s)) (is_served_at sv.setting.ports s.dst_port)
+addressed_drains now pointer s text sv = by (not (is_for_us sv.setting s)) (is_served_at sv.setting.ports s.dst_port)
   where
     s1 : Seg
     s1 = limited sv.setting.segment s
 
-    by : (a b : Bool) → (cond a (sends_nothing (record sv { counts = record sv.counts { astray = more 1 sv.counts.astray } })) (cond b (on_segment now s1 text sv) (refuses now s sv))).server.draining ≡ sv.draining
+    by : (a b : Bool) → (cond a (sends_nothing (record sv { counts = record sv.counts { astray = more 1 sv.counts.astray } })) (cond b (on_urgent now pointer s1 text sv) (refuses now s sv))).server.draining ≡ sv.draining
     by true b = refl
-    by false true = segment_drains now s1 text sv
+    by false true = urgent_drains now pointer s1 text sv
     by false false = refl
 
 -- ---- other datagrams
@@ -186,7 +204,7 @@ report_drains now body sv idle drains = by (unreachable_in body) drains
 
 packet_drains : (now : ℕ) (body : List ℕ) (p : Packet) (sv : ServerOf) → sv.draining ≡ false → (on_packet now body p sv).server.draining ≡ true → OrdersDrain body sv
 unfolding on_packet
-packet_drains now body (packet.Segment s) sv idle drains = never (addressed now s (text_in s body) sv).server.draining sv.draining (addressed_drains now s (text_in s body) sv) idle drains
+packet_drains now body (packet.Segment s) sv idle drains = never (addressed now (urgent_in s body) (as_reset s) (reset_text s (text_in s body)) sv).server.draining sv.draining (addressed_drains now (urgent_in s body) (as_reset s) (reset_text s (text_in s body)) sv) idle drains
 packet_drains now body packet.Other sv idle drains = by (too_long_in body) drains
   where
     by : (r : Option TooLong) → (option_map_or (λ x. on_too_long x sv) r (on_report now body sv)).server.draining ≡ true → OrdersDrain body sv

@@ -32,3 +32,4 @@ pub mod DrainLemmas
 pub mod HostLemmas
 pub mod CountsLemmas
 pub mod TimingLemmas
+pub mod UrgentLemmas

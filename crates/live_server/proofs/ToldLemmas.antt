@@ -15,9 +15,10 @@ use Rattle.live_server.specs.Addresses.{is_for_us, is_to_us}
 use Rattle.live_server.specs.Frames.{FrameOf, body_size, frame_at, frames_in, is_end, on_frame, rest_of, serves_frames}
 use Rattle.live_server.specs.Services.{is_served_at, service_at}
 use Rattle.live_server.specs.Serving.{ServerOf, limited, makes_place, served}
-use Rattle.live_server.specs.Told.{Told, told_addressed, told_datagram, told_frame, told_frames, told_other, told_packet, told_segment, told_taking, told_too_long, told_admitting}
+use Rattle.live_server.specs.Told.{Told, told_addressed, told_datagram, told_frame, told_frames, told_other, told_packet, told_taking, told_too_long, told_admitting, told_urgent, told_urging}
 use Rattle.live_server.specs.Told.Told.{hears}
 use Rattle.live_server.specs.Table.{place_of}
+use Rattle.live_server.specs.Urgent.{as_reset, reset_text, urgent_in}
 use Rattle.live_server.specs.declared.conn.Conn.{Conn}
 use Rattle.live_server.proofs.FrameLemmas.{frames_next}
 use Rattle.live_server.proofs.PieceLemmas.{pieces_join_proof}
@@ -30,13 +31,23 @@ module _ (now : ℕ) (s : Seg) (text : List ℕ) (sv : ServerOf) where
   unfolding told_admitting
   admitting_told b e = ap (λ (v : Bool). cond v [] (told_taking (tuple_of s) (makes_place sv))) e
 
-  abbrev told_for : Bool → Bool → List Told
-  told_for ours at_port = cond (not ours) [] (cond at_port (told_segment now (limited sv.setting.segment s) text sv) [])
+  abbrev told_for : Option ℕ → Bool → Bool → List Told
+  told_for pointer ours at_port = cond (not ours) [] (cond at_port (told_urgent now pointer (limited sv.setting.segment s) text sv) [])
 
-  pub addressed_told : (ours at_port : Bool) → is_for_us sv.setting s ≡ ours → is_served_at sv.setting.ports s.dst_port ≡ at_port
-      → told_addressed now s text sv ≡ told_for ours at_port
+  pub addressed_told : (pointer : Option ℕ) (ours at_port : Bool) → is_for_us sv.setting s ≡ ours → is_served_at sv.setting.ports s.dst_port ≡ at_port
+      → told_addressed now pointer s text sv ≡ told_for pointer ours at_port
   unfolding told_addressed
-  addressed_told ours at_port e f = λ j. told_for (e j) (f j)
+  addressed_told pointer ours at_port e f = λ j. told_for pointer (e j) (f j)
+
+-- where urgent data ends is told to the segment's own connection
+pub urging_told : (pointer : Option ℕ) (p : ℕ) (s : Seg) (sv : ServerOf) (r : Option ℕ) → pointer ≡ Some p → place_of (tuple_of s) sv.conns ≡ r
+    → told_urging pointer s sv ≡ option_map_or (λ place. hears (tuple_of s) ∷ []) r []
+unfolding told_urging
+urging_told pointer p s sv r is at = ap (λ (o : Option ℕ). told_urging o s sv) is ∙ ap (λ (o : Option ℕ). option_map_or (λ place. hears (tuple_of s) ∷ []) o []) at
+
+pub unurged_told : (pointer : Option ℕ) (s : Seg) (sv : ServerOf) → pointer ≡ None → told_urging pointer s sv ≡ []
+unfolding told_urging
+unurged_told pointer s sv is = ap (λ (o : Option ℕ). told_urging o s sv) is
 
 -- whom a router's message is told
 pub path_told_by : (x : TooLong) (sv : ServerOf) (b : Bool) (r : Option ℕ) → is_to_us sv.setting x.src x.dst ≡ b → place_of x.ends sv.conns ≡ r
@@ -45,7 +56,7 @@ unfolding told_too_long
 path_told_by x sv b r e at = λ j. cond (e j) (option_map_or (λ place. hears x.ends ∷ []) (at j) []) []
 
 module _ (now : ℕ) (body : List ℕ) (sv : ServerOf) where
-  pub packet_told : (s : Seg) → packet_in RawIp body true ≡ packet.Segment s → told_datagram now body sv ≡ told_addressed now s (text_in s body) sv
+  pub packet_told : (s : Seg) → packet_in RawIp body true ≡ packet.Segment s → told_datagram now body sv ≡ told_addressed now (urgent_in s body) (as_reset s) (reset_text s (text_in s body)) sv
   unfolding told_datagram told_packet
   packet_told s e = ap (λ p. told_packet now body p sv) e
 

@@ -3,19 +3,19 @@ use Rattle.std.specs.Prelude.{ℕ, ◌+◌, ◌-◌, ◌%◌, ◌^◌, ◌==◌,
 use Rattle.std.specs.Prelude.{List, [], ◌∷◌, ◌++◌, length, map, if◌then◌else◌}
 use Rattle.sq_base.specs.SerialOrder.{dist}
 use Rattle.byte_queues.specs.Limits.{send_space}
-use Rattle.byte_queues.specs.ReceiveQueue.{next_of}
+use Rattle.byte_queues.specs.ReceiveQueue.{next_of, ready_of}
 use Rattle.echo_services.specs.Serving.{followed, kept, serves, segment}
 use Rattle.segment_codec.specs.ControlBits.{ack, rst, syn}
 use Rattle.segment_codec.specs.SegmentBytes.{segment_bytes}
 use Rattle.segment_codec.specs.declared.packet.Reply.{Reply}
 use Rattle.segment_codec.specs.declared.packet.Seg.{Seg}
 use Rattle.sq_base.specs.declared.kinds.Tuple.{Tuple}
-use Rattle.tcb_machine.specs.BlockState.{Block, has, new_block, offered, rcv_nxt, rcv_wnd, sends_ack, snd_nxt}
+use Rattle.tcb_machine.specs.BlockState.{Block, has, new_block, offered, one_if, rcv_nxt, rcv_wnd, sends_ack, snd_nxt}
 use Rattle.tcb_machine.specs.CallAnswers.{tcp_call}
 use Rattle.tcb_machine.specs.Challenges.{is_challenged, is_syn_received}
 use Rattle.tcb_machine.specs.Forgetting.{forgetting}
 use Rattle.tcb_machine.specs.Limits.{most_streamed}
-use Rattle.tcb_machine.specs.States.{is_listen}
+use Rattle.tcb_machine.specs.States.{is_consumed, is_listen}
 use Rattle.tcb_machine.specs.TcpStep.{tcp_segment}
 use Rattle.tcb_machine.specs.Timers.{retransmits, tcp_time}
 use Rattle.tcb_machine.specs.declared.kinds.Call.TheVariants.{Close}
@@ -33,7 +33,6 @@ use Rattle.live_server.specs.declared.conn.Met.TheVariants.{Gone, Judged as judg
 use Rattle.live_server.specs.declared.measures.Measures.{Measures}
 use Rattle.live_server.specs.declared.service.LiveService.{LiveService}
 use Rattle.live_server.specs.declared.service.LiveService.TheVariants.{Discard}
-use Rattle.live_server.specs.declared.timing.Timing.{Timing}
 
 -- a connection that nothing is known of, with its service, and the most text that a segment may have on its path; it has no place yet, so no number
 abbrev pub new_conn : LiveService → ℕ → ℕ → Conn
@@ -47,6 +46,7 @@ new_conn service most now = record {
   quiet_until = 0;
   congestion = no_congestion;
   timing = no_timing;
+  urgent = 0;
 }
 
 -- what stands for one where there is none
@@ -105,7 +105,12 @@ renewed una field b = if (b.una == una) && not (field == 0) then b else record b
 unfoldable pub resent : Bool → Block → Block
 resent again b = if again && (not (is_listen b.state) && not (b.una == snd_nxt b)) then retransmits b.state b else b
 
--- the block and the service take it, as the congestion window lets it; the timer, where it starts, does so with the timeout of the round trips
+-- the number of the first byte of text that the service hasn't read: RCV.NXT less what it may read, and less a FIN that came
+unfoldable pub read_nxt : Block → ℕ
+read_nxt b = dist (ready_of b.recv + one_if (is_consumed b.state)) (rcv_nxt b)
+
+-- the block and the service take it, as the congestion window lets it; the timer, where it starts, does so with the timeout of the round trips.
+-- What the service reads is urgent no more (RFC 9293, 3.8.5)
 unfoldable pub taken : ℕ → ℕ → Seg → List ℕ → Conn → Conn
 taken now iss s text c =
     let x = eased s c.tcb c.congestion in
@@ -117,6 +122,7 @@ taken now iss s text c =
       service = kept after_pump c.service (tcp_segment now iss (seen s c.tcb x) text c.tcb);
       congestion = x;
       timing = t;
+      urgent = c.urgent - dist (read_nxt c.tcb) (read_nxt b);
       heard = now;
     }
 

@@ -27,6 +27,7 @@ no_counts = record {
   time_exceeded = 0;
   parameter_problem = 0;
   unreached = 0;
+  urgent = 0;
 }
 
 -- so many more, modulo 2^64

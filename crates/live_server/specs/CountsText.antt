@@ -19,7 +19,7 @@ abbrev pub place_counts : Counts → List (List ℕ × ℕ)
 place_counts n = (codes "opened", n.opened) ∷ (codes "turned_away", n.turned_away) ∷ (codes "gave_way", n.gave_way) ∷ (codes "left", n.left) ∷ []
 
 abbrev pub segment_counts : Counts → List (List ℕ × ℕ)
-segment_counts n = (codes "challenges", n.challenges) ∷ (codes "unanswered", n.unanswered) ∷ (codes "late", n.late) ∷ []
+segment_counts n = (codes "challenges", n.challenges) ∷ (codes "unanswered", n.unanswered) ∷ (codes "late", n.late) ∷ (codes "urgent", n.urgent) ∷ []
 
 abbrev pub limit_counts : Counts → List (List ℕ × ℕ)
 limit_counts n = (codes "over_full", n.over_full) ∷ (codes "shortened", n.shortened) ∷ []

@@ -15,12 +15,14 @@ use Rattle.sq_base.specs.declared.kinds.Link.TheVariants.{RawIp}
 use Rattle.sq_base.specs.declared.kinds.Tuple.{Tuple}
 use Rattle.live_server.specs.Acts.{datagram_of, emptied, is_half_open, is_over, reached, receives}
 use Rattle.live_server.specs.Addresses.{is_to_us}
+use Rattle.live_server.specs.Counting.{more}
 use Rattle.live_server.specs.Initial.{number_for}
 use Rattle.live_server.specs.Leaving.{is_leaving, shed_ends, without_leaving}
 use Rattle.live_server.specs.PathMtu.{path_told, text_in_mtu}
-use Rattle.live_server.specs.Serving.{ServerOf, heeded, heeded_text, makes_place, on_segment, on_time, on_too_long, on_unreachable, passes_over, timed, measures_of}
+use Rattle.live_server.specs.Serving.{ServerOf, heeded, heeded_text, makes_place, on_segment, on_time, on_too_long, on_unreachable, passes_over, timed, measures_of, urges_own}
 use Rattle.live_server.specs.Table.{Conns, all_reached, tuple_eq, without_over}
 use Rattle.live_server.specs.Unreached.{is_under_way}
+use Rattle.live_server.specs.Urgent.{is_news, urged}
 use Rattle.live_server.specs.declared.acting.Datagram.{Datagram}
 use Rattle.live_server.specs.declared.conn.Conn.{Conn}
 
@@ -98,14 +100,19 @@ CostsOf body before after =
     ((s : Seg) × (packet_in RawIp body true ≡ Segment s) × Costs s before after)
     ⊎ (((x : TooLong) × (too_long_in body ≡ Some x) × Loses x.ends before after) ⊎ (after ≡ before))
 
--- and all else stays, but who may have to give way, three counts, and what is held, to which no more comes than so much text
+-- and all else stays, but who may have to give way, four counts, and what is held, to which no more comes than so much text
 abbrev pub KeepsRest : ℕ → ServerOf → ServerOf → Type 0
 KeepsRest most before after =
     (after ≡ record before {
       conns = after.conns;
       waiting = after.waiting;
       held = after.held;
-      counts = record before.counts { refused = after.counts.refused; gave_way = after.counts.gave_way; over_full = after.counts.over_full };
+      counts = record before.counts {
+        refused = after.counts.refused;
+        gave_way = after.counts.gave_way;
+        over_full = after.counts.over_full;
+        urgent = after.counts.urgent;
+      };
     }) × (before.held ≤ after.held) × (after.held ≤ before.held + most)
 
 -- and what the time does: one connection is gone, and each other one is as it was, or as the time leaves it
@@ -137,6 +144,17 @@ pub record IsHarmless (x : Unreachable) (sv : ServerOf) : Type 0 where
 
 abbrev pub ReportIsHarmless : Type 0
 ReportIsHarmless = (x : Unreachable) (sv : ServerOf) → IsTable sv → IsHarmless x sv
+
+-- What a segment says of urgent data is told to its own connection alone, and counts where it is news there (RFC 9293, 3.8.5)
+pub record IsToldItsOwn (now pointer : ℕ) (s : Seg) (sv : ServerOf) : Type 0 where
+  pub table : IsTable (urges_own now (Some pointer) s sv).server
+  pub own : (c : Conn) → conn_of (tuple_of s) sv ≡ Some c → conn_of (tuple_of s) (urges_own now (Some pointer) s sv).server ≡ kept_as (urged now pointer s c)
+  pub others : (q : Tuple) → tuple_eq (tuple_of s) q ≡ false → conn_of q (urges_own now (Some pointer) s sv).server ≡ conn_of q sv
+  pub counts : (c : Conn) → conn_of (tuple_of s) sv ≡ Some c → (urges_own now (Some pointer) s sv).server.counts
+      ≡ (if is_news now pointer s c then record sv.counts { urgent = more 1 sv.counts.urgent } else sv.counts)
+
+abbrev pub UrgentIsItsOwn : Type 0
+UrgentIsItsOwn = (now pointer : ℕ) (s : Seg) (sv : ServerOf) → IsTable sv → IsToldItsOwn now pointer s sv
 
 -- what is sent for a segment goes to its own ends
 abbrev pub AnswersItsEnds : Type 0

@@ -8,6 +8,7 @@ pub mod DaytimeText
 pub mod Services
 pub mod Acts
 pub mod PathMtu
+pub mod Urgent
 pub mod Counting
 pub mod CountsText
 pub mod Table

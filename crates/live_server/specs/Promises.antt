@@ -22,6 +22,7 @@ use Rattle.live_server.specs.Limits.{challenge_interval}
 use Rattle.live_server.specs.PathMtu.{is_heeded, path_told, text_in_mtu}
 use Rattle.live_server.specs.Serving.{ServerOf, heeded_text, is_tight, limited, on_segment, on_time}
 use Rattle.live_server.specs.Table.{held_by, tuple_eq}
+use Rattle.live_server.specs.Urgent.{ahead_by, is_news, urg, urged, urgent_in}
 use Rattle.live_server.specs.declared.congestion.Congestion.{Congestion}
 use Rattle.live_server.specs.declared.conn.Conn.{Conn}
 use Rattle.live_server.specs.declared.conn.Judged.{Judged}
@@ -210,3 +211,24 @@ PathIsBounded = (seq mtu : ℕ) (c : Conn)
 -- and where no segment of this number is under way, nothing changes
 abbrev pub UnsentIsIgnored : Type 0
 UnsentIsIgnored = (seq mtu : ℕ) (c : Conn) → flight c.tcb ≤ dist c.tcb.una seq → path_told seq (text_in_mtu mtu) c ≡ c
+
+-- ---- urgent data
+-- What is told of it changes neither a connection's text nor its state, nor anything but what is urgent, which is no less then (RFC 9293, 3.8.5)
+pub record Advances (now pointer : ℕ) (s : Seg) (c : Conn) : Type 0 where
+  pub rest : urged now pointer s c ≡ record c { urgent = (urged now pointer s c).urgent }
+  pub more : c.urgent ≤ (urged now pointer s c).urgent
+  pub least : is_news now pointer s c ≡ true → ahead_by pointer s c.tcb ≤ (urged now pointer s c).urgent
+
+abbrev pub UrgentAdvances : Type 0
+UrgentAdvances = (now pointer : ℕ) (s : Seg) (c : Conn) → Advances now pointer s c
+
+-- nothing else raises it: neither a segment's text nor the time
+abbrev pub SegmentRaisesNone : Type 0
+SegmentRaisesNone = (now iss : ℕ) (s : Seg) (text : List ℕ) (c : Conn) → (receives now iss s text c).urgent ≤ c.urgent
+
+abbrev pub TimeRaisesNone : Type 0
+TimeRaisesNone = (measures : Measures) (now : ℕ) (c : Conn) → (ticked measures now c).urgent ≡ c.urgent
+
+-- and without URG the field says nothing (3.1)
+abbrev pub UnflaggedSaysNothing : Type 0
+UnflaggedSaysNothing = (s : Seg) (ip : List ℕ) → has s.flags urg ≡ false → urgent_in s ip ≡ None

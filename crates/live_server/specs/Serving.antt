@@ -32,6 +32,7 @@ use Rattle.live_server.specs.PathMtu.{shortens, text_in_mtu}
 use Rattle.live_server.specs.Orders.{order_in}
 use Rattle.live_server.specs.Services.{is_served_at, service_at}
 use Rattle.live_server.specs.Unreached.{reported}
+use Rattle.live_server.specs.Urgent.{as_reset, reset_text, urgent_in, urges}
 use Rattle.live_server.specs.Table.{Conns, all_reached, conn_at, held_by, place_of, replaced, without, without_over}
 use Rattle.live_server.specs.declared.acting.Datagram.{Datagram}
 use Rattle.live_server.specs.declared.conn.Conn.{Conn}
@@ -225,11 +226,31 @@ passes_over sv = sends_nothing (record sv { counts = record sv.counts { passed_o
 abbrev pub limited : ℕ → Seg → Seg
 limited most s = record s { options = record s.options { mss = Some (min most (unwrap_or s.options.mss default_mss)) } }
 
+-- where urgent data ends counts each time that it is news (RFC 9293, 3.8.5)
+abbrev pub counting_urgent : Met → ServerOf → ServerOf
+counting_urgent (judges j) sv = record sv { counts = record sv.counts { urgent = more 1 sv.counts.urgent } }
+counting_urgent Gone sv = sv
+
+-- it comes to the connection at a place
+unfoldable pub urges_at : ℕ → ℕ → Seg → ℕ → ServerOf → Outcome
+urges_at now pointer s place sv =
+    let m = urges now pointer s (tuple_of s) (conn_at place sv.conns) in
+    becomes place (tuple_of s) m.conn (counting_urgent m.met sv)
+
+-- to the segment's own one, where there is one
+unfoldable pub urges_own : ℕ → Option ℕ → Seg → ServerOf → Outcome
+urges_own now None s sv = sends_nothing sv
+urges_own now (Some pointer) s sv = option_map_or (λ place. urges_at now pointer s place sv) (place_of (tuple_of s) sv.conns) (sends_nothing sv)
+
+-- a segment to a service, and before it where its urgent data ends, where it says so
+unfoldable pub on_urgent : ℕ → Option ℕ → Seg → List ℕ → ServerOf → Outcome
+on_urgent now pointer s text sv = then_sends (urges_own now pointer s sv) (on_segment now s text)
+
 -- a segment: for us, and to a service, or elsewhere
-unfoldable pub addressed : ℕ → Seg → List ℕ → ServerOf → Outcome
-addressed now s text sv =
+unfoldable pub addressed : ℕ → Option ℕ → Seg → List ℕ → ServerOf → Outcome
+addressed now pointer s text sv =
     if not (is_for_us sv.setting s) then sends_nothing (record sv { counts = record sv.counts { astray = more 1 sv.counts.astray } })
-    else if is_served_at sv.setting.ports s.dst_port then on_segment now (limited sv.setting.segment s) text sv
+    else if is_served_at sv.setting.ports s.dst_port then on_urgent now pointer (limited sv.setting.segment s) text sv
     else refuses now s sv
 
 -- an echo request is answered (RFC 1122, 3.2.2.6)
@@ -318,7 +339,7 @@ unfoldable pub on_report : ℕ → List ℕ → ServerOf → Outcome
 on_report now body sv = option_map_or (λ x. sends_nothing (on_unreachable x sv)) (unreachable_in body) (on_protocol now body sv)
 
 unfoldable pub on_packet : ℕ → List ℕ → Packet → ServerOf → Outcome
-on_packet now body (packet.Segment s) sv = addressed now s (text_in s body) sv
+on_packet now body (packet.Segment s) sv = addressed now (urgent_in s body) (as_reset s) (reset_text s (text_in s body)) sv
 on_packet now body packet.Other sv = option_map_or (λ x. on_too_long x sv) (too_long_in body) (on_report now body sv)
 on_packet now body packet.Fragment sv = passes_over sv
 on_packet now body packet.Cut sv = passes_over sv

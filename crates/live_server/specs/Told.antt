@@ -1,5 +1,5 @@
 -- What frames tell connections: which ones begin, and which ones hear a frame. A connection may leave at any time, and is told nothing then.
-use Rattle.std.specs.Prelude.{ℕ, ◌==◌, not, true, List, [], ◌∷◌, ◌++◌, length, map, if◌then◌else◌}
+use Rattle.std.specs.Prelude.{ℕ, ◌==◌, not, true, Option, None, Some, List, [], ◌∷◌, ◌++◌, length, map, if◌then◌else◌}
 use Rattle.std.specs.Map.{keys_of}
 use Rattle.std.specs.Option.{option_map_or}
 use Rattle.segment_codec.specs.Packet.{packet_in}
@@ -16,8 +16,9 @@ use Rattle.live_server.specs.Acts.{is_over, new_conn}
 use Rattle.live_server.specs.Addresses.{is_for_us, is_to_us}
 use Rattle.live_server.specs.Frames.{FrameOf, on_frame}
 use Rattle.live_server.specs.Services.{is_served_at, service_at}
-use Rattle.live_server.specs.Serving.{ServerOf, has_place, heeded, heeded_text, limited, makes_place, noting, served, time_to}
+use Rattle.live_server.specs.Serving.{ServerOf, has_place, heeded, heeded_text, limited, makes_place, noting, served, time_to, urges_own}
 use Rattle.live_server.specs.Table.{place_of}
+use Rattle.live_server.specs.Urgent.{as_reset, reset_text, urgent_in}
 
 pub data Told : Type 0 where
   -- a connection of these two ends begins
@@ -56,10 +57,18 @@ told_segment now s text sv =
 unfoldable pub told_arriving : ℕ → Seg → List ℕ → ServerOf → List Told
 told_arriving now s text sv = told_its_own (tuple_of s) sv ++ told_coming now s text (time_to now (tuple_of s) sv).server
 
-unfoldable pub told_addressed : ℕ → Seg → List ℕ → ServerOf → List Told
-told_addressed now s text sv =
+-- where urgent data ends is told to the segment's own connection
+unfoldable pub told_urging : Option ℕ → Seg → ServerOf → List Told
+told_urging None s sv = []
+told_urging (Some pointer) s sv = told_its_own (tuple_of s) sv
+
+unfoldable pub told_urgent : ℕ → Option ℕ → Seg → List ℕ → ServerOf → List Told
+told_urgent now pointer s text sv = told_urging pointer s sv ++ told_segment now s text (urges_own now pointer s sv).server
+
+unfoldable pub told_addressed : ℕ → Option ℕ → Seg → List ℕ → ServerOf → List Told
+told_addressed now pointer s text sv =
     if not (is_for_us sv.setting s) then []
-    else if is_served_at sv.setting.ports s.dst_port then told_segment now (limited sv.setting.segment s) text sv
+    else if is_served_at sv.setting.ports s.dst_port then told_urgent now pointer (limited sv.setting.segment s) text sv
     else []
 
 -- the connection of a segment that was too long for a path hears it
@@ -70,7 +79,7 @@ unfoldable pub told_other : List ℕ → ServerOf → List Told
 told_other body sv = option_map_or (λ x. told_too_long x sv) (too_long_in body) []
 
 unfoldable pub told_packet : ℕ → List ℕ → Packet → ServerOf → List Told
-told_packet now body (packet.Segment s) sv = told_addressed now s (text_in s body) sv
+told_packet now body (packet.Segment s) sv = told_addressed now (urgent_in s body) (as_reset s) (reset_text s (text_in s body)) sv
 told_packet now body packet.Other sv = told_other body sv
 told_packet now body packet.Fragment sv = []
 told_packet now body packet.Cut sv = []

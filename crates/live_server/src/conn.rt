@@ -3,11 +3,12 @@
 ghost use Rattle.std.specs.Prelude.{false, ◌≡◌, ◌==◌, ◌&&◌, ◌++◌, ◌≤◌, IfOk, None, OnErr, OnOk, Some, if◌then◌else◌};
 ghost use Rattle.live_server.specs.Acts.{after, allowed, challenged, closed, emptied, has_room, is_allowed, is_half_open, is_idle, is_outside, is_over, is_probing, is_waited_for, judged, meets};
 ghost use Rattle.live_server.specs.Acts.{new_conn, oldest_ack, provokes, pruned, reached, receives, renewed, resent, sent_by, taken, takes, ticked, waited_for};
+ghost use Rattle.live_server.specs.Acts.{read_nxt};
 ghost use Rattle.live_server.specs.Facts.{facts_of};
 ghost use Rattle.live_server.specs.Leaving.{is_given_up};
 ghost use Rattle.live_server.specs.Written.{HasSent};
 ghost use Rattle.tcb_machine.specs.BlockState.{rcv_nxt, rcv_wnd};
-ghost use Rattle.tcb_machine.specs.States.{is_listen};
+ghost use Rattle.tcb_machine.specs.States.{is_consumed, is_listen};
 ghost use Rattle.tcb_machine.specs.TcpStep.{is_time_wait};
 ghost use Rattle.tcb_machine.specs.Room.{HasRoom};
 ghost use Rattle.tcb_machine.specs.CallAnswers.{tcp_call};
@@ -49,6 +50,8 @@ pub struct Conn {
     pub quiet_until: u64,
     pub congestion: Congestion,
     pub timing: Timing,
+    /// How many bytes of urgent data its service hasn't read: RCV.UP less what it read, or 0 where nothing urgent is left (RFC 9293, 3.8.5).
+    pub urgent: u32,
 }
 
 /// What becomes of a segment.
@@ -64,10 +67,10 @@ pub enum Judged {
     Late,
 }
 
-/// What a segment meets at a connection to which the time comes first, or what a router says of one.
+/// What a segment meets at a connection to which the time comes first, or what a router says of one, or what it says of urgent data.
 #[derive(Clone, Copy, Debug, PartialEq, Eq)]
 pub enum Met {
-    /// Nobody: the time ended the connection, or what a router says isn't of what is under way.
+    /// Nobody: the time ended the connection, or what a router says isn't of what is under way, or urgent data ends where it did.
     Gone,
     /// The connection, which judged it.
     Judged(Judged),
@@ -88,6 +91,7 @@ impl Conn {
             quiet_until: 0,
             congestion: Congestion::fresh(),
             timing: Timing::fresh(),
+            urgent: 0,
         }
     }
 
@@ -203,6 +207,7 @@ impl Conn {
         self.congestion.ease(&self.tcb, seg);
         let seen = self.congestion.seen(&self.tcb, seg);
         let before = Mark::of(&self.tcb);
+        let unread = read_nxt(&self.tcb);
         serve(
             &mut self.service,
             &mut self.tcb,
@@ -212,6 +217,8 @@ impl Conn {
             &seen,
             text,
         )?;
+        let read = seq_dist(unread, read_nxt(&self.tcb));
+        self.urgent = self.urgent.saturating_sub(read);
         self.timing.follow(&self.tcb, before, now, again);
         retime(&mut self.tcb, before, self.timing.timeout());
         renew(&mut self.tcb, before.una, seg.wnd);
@@ -462,8 +469,31 @@ pub(crate) fn resend(tcb: &mut Tcb, alloc: Global, again: bool) -> Result<(), Al
     Ok(())
 }
 
+/// Whether the peer's FIN is consumed.
+pub(crate) fn is_consumed(state: State) -> bool
+    ensures { result ≡ is_consumed state }
+{
+    matches!(
+        state,
+        State::CloseWait | State::Closing | State::LastAck | State::TimeWait
+    )
+}
+
+/// The number of the first byte of text that the service hasn't read.
+#[tactic(auto, unfolding(crate::specs::Acts::read_nxt))]
+pub(crate) fn read_nxt(tcb: &Tcb) -> u32
+    ensures { result ≡ read_nxt tcb.now }
+{
+    let unread = tcb.ready();
+    if is_consumed(tcb.state()) {
+        seq_dist(unread + 1, tcb.rcv_nxt())
+    } else {
+        seq_dist(unread, tcb.rcv_nxt())
+    }
+}
+
 /// Whether a block takes a segment at this time.
-fn takes(tcb: &Tcb, now: u64) -> bool
+pub(crate) fn takes(tcb: &Tcb, now: u64) -> bool
     ensures { result ≡ takes now tcb.now }
 {
     tcb.clock() <= now && has_room(tcb)
@@ -529,7 +559,7 @@ fn is_closed_at(tcb: &Tcb, seg: &Seg, seq: u32) -> bool
 
 /// Whether the acknowledgement is neither of what was sent nor a bit older (RFC 5961, 5.2).
 #[tactic(auto, unfolding(crate::specs::Acts::is_outside))]
-fn is_outside(tcb: &Tcb, seg: &Seg) -> bool
+pub(crate) fn is_outside(tcb: &Tcb, seg: &Seg) -> bool
     ensures { result ≡ is_outside seg.now tcb.now }
 {
     if matches!(tcb.state(), State::Listen | State::SynReceived)

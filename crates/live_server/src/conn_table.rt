@@ -9,6 +9,7 @@ ghost use Rattle.live_server.specs.Leaving.{peer_of, without_leaving};
 ghost use Rattle.live_server.specs.PathMtu.{shortens};
 ghost use Rattle.live_server.specs.Serving.{is_waiting};
 ghost use Rattle.live_server.specs.Unreached.{reported};
+ghost use Rattle.live_server.specs.Urgent.{urges};
 ghost use Rattle.live_server.specs.Table.{Conns, all_reached, conn_at, held_by, place_of, replaced, without, without_over, IsNew};
 ghost use Rattle.live_server.specs.Told.{Told};
 ghost use Rattle.live_server.specs.Told.Told.{begins, hears};
@@ -137,6 +138,29 @@ pub trait ConnTable {
             ≡ replaced place (shortens seq most tuple.now (conn_at place (conns self.old))).conn (conns self.old)) }
         ensures sent { OnOk result (out.new.items ≡ out.old.items ++ (shortens seq most tuple.now (conn_at place (conns self.old))).sent) }
         ensures wrote { OnErr result (HasSent out.old.items out.new.items (shortens seq most tuple.now (conn_at place (conns self.old))).sent) }
+        ensures told { OnOk result (tells self.old (hears tuple.now ∷ []) self.new) }
+        ensures lost { OnErr result (conns self.new ≡ without place (conns self.old)) };
+
+    /// A segment with URG says to the connection at a place where urgent data ends. The connection leaves where memory is missing. What is sent
+    /// goes behind the datagrams that are there. The answer says whether it is news: else it met nobody.
+    fn urge(
+        &mut self,
+        place: usize,
+        alloc: Global,
+        now: u64,
+        pointer: u16,
+        seg: &Seg,
+        tuple: &Tuple,
+        out: &mut Vec<Datagram>,
+    ) -> Result<Met, AllocError>
+        requires good { good self.old }
+        requires place { place_of tuple.now (conns self.old) ≡ Some place }
+        ensures good { good self.new }
+        ensures met { IfOk result (λ m. m ≡ (urges now pointer seg.now tuple.now (conn_at place (conns self.old))).met) }
+        ensures table { OnOk result (conns self.new
+            ≡ replaced place (urges now pointer seg.now tuple.now (conn_at place (conns self.old))).conn (conns self.old)) }
+        ensures sent { OnOk result (out.new.items ≡ out.old.items ++ (urges now pointer seg.now tuple.now (conn_at place (conns self.old))).sent) }
+        ensures wrote { OnErr result (HasSent out.old.items out.new.items (urges now pointer seg.now tuple.now (conn_at place (conns self.old))).sent) }
         ensures told { OnOk result (tells self.old (hears tuple.now ∷ []) self.new) }
         ensures lost { OnErr result (conns self.new ≡ without place (conns self.old)) };
 

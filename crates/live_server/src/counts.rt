@@ -47,6 +47,8 @@ pub struct Counts {
     pub parameter_problem: u64,
     /// Half-open connections that left at such a message.
     pub unreached: u64,
+    /// How often urgent data came of which nothing was known, or it turned out to end later (RFC 9293, 3.8.5).
+    pub urgent: u64,
 }
 
 impl Counts {

@@ -76,7 +76,8 @@ fn push_segments(text: &mut String, counts: &Counts) -> Result<(), AllocError>
 {
     push_line(text, "challenges", counts.challenges)?;
     push_line(text, "unanswered", counts.unanswered)?;
-    push_line(text, "late", counts.late)
+    push_line(text, "late", counts.late)?;
+    push_line(text, "urgent", counts.urgent)
 }
 
 /// Appends the counts of what memory and a path let pass.

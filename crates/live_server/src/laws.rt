@@ -4,11 +4,12 @@ ghost use Rattle.std.specs.Prelude.{◌≡◌, codes};
 ghost use Rattle.live_server.specs.DaytimeText.{date_of, daytime_text};
 ghost use Rattle.live_server.specs.Draining.{EachCloses, HostDrains, NoneOpens, TimeKeepsDrain};
 ghost use Rattle.live_server.specs.Frames.{PiecesJoin};
-ghost use Rattle.live_server.specs.Isolation.{AnswersItsEnds, OthersStay, OwnConnActs, OwnEntryGivesWay, SegmentKeepsTable, TimeKeepsTable, TimeLeaves, TooLongIsApart, ReportIsHarmless};
+ghost use Rattle.live_server.specs.Isolation.{AnswersItsEnds, OthersStay, OwnConnActs, OwnEntryGivesWay, SegmentKeepsTable, TimeKeepsTable, TimeLeaves, TooLongIsApart, ReportIsHarmless, UrgentIsItsOwn};
 ghost use Rattle.live_server.specs.Promises.{ChallengesAreApart, FirstIsWide, OneGivesWay, OneIsShed, PlaceIsFreed, OutputIsBounded, SegmentKeepsFew, SegmentKeepsWide, ShedIsFair, ShownIsKept};
 ghost use Rattle.live_server.specs.Promises.{NewIsShort, SegmentKeepsShort, ShownIsNarrow, TextIsBounded, TextIsCounted, TimeCountsAnew, TimeKeepsFew};
 ghost use Rattle.live_server.specs.Promises.{HeededIsShort, PathIsBounded, PlacedStaysShort, RestartIsWide, BeginsBeyondRecover, UnsentIsIgnored};
 ghost use Rattle.live_server.specs.Promises.{TickKeepsOrder, TightHoldsOrder, TimeKeepsShort, TimeoutIsWide};
+ghost use Rattle.live_server.specs.Promises.{SegmentRaisesNone, TimeRaisesNone, UnflaggedSaysNothing, UrgentAdvances};
 
 /// Each connection stands once in the table, and there are no more than there are places.
 pub fn the_table_is_bounded()
@@ -153,4 +154,18 @@ pub fn paths_shorten_segments()
 /// leaves, and only where its SYN,ACK is under way (RFC 9293, 3.9.2.2).
 pub fn no_report_ends_an_open_connection()
     ensures { ReportIsHarmless }
+{}
+
+/// What a segment says of urgent data is told to its own connection alone, and counts where it is news there (RFC 9293, 3.8.5).
+pub fn urgent_data_is_its_own()
+    ensures { UrgentIsItsOwn }
+{}
+
+/// Nothing but the pointer of a segment with URG raises what a connection has left of urgent data, and none lowers it: what the service reads does.
+/// Text and state stay as they are at that.
+pub fn urgent_pointers_only_advance()
+    ensures pointer { UrgentAdvances }
+    ensures segment { SegmentRaisesNone }
+    ensures time { TimeRaisesNone }
+    ensures unflagged { UnflaggedSaysNothing }
 {}

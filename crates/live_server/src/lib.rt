@@ -29,6 +29,7 @@ mod site;
 mod table;
 mod timing;
 mod unreached;
+mod urgent;
 
 pub use acting::Datagram;
 pub use congestion::Congestion;

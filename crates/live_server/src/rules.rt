@@ -32,6 +32,7 @@ use crate::orders::{back_to, order_in, order_text};
 use crate::path_mtu::text_in_mtu;
 use crate::ports::{is_served_at, service_at};
 use crate::setting::Setting;
+use crate::urgent::{as_reset, reset_text, urgent_in};
 use icmp_codec::{Ping, TooLong, ping_in, pong, too_long_in};
 use segment_codec::{Options, Packet, SYN, Seg, decode, refusal, tuple_of};
 use sq_base::{Link, Tuple};
@@ -128,7 +129,7 @@ impl<T: ConnTable> Rules<T> {
     /// verified. An echo request is answered, an order of the host is obeyed, a router's message that a segment was too long is told to
     /// the segment's connection, one that it didn't arrive counts, and what else is no whole TCP segment is passed over. An error says that memory was missing: then the
     /// segment's own connection may be gone, with half-open ones that gave way, and some of what is to be sent is missing. All else stays
-    /// but who may give way, what is held, and three counts.
+    /// but who may give way, what is held, and four counts.
     #[tactic(auto, unfolding(crate::specs::Serving::on_datagram, crate::specs::Serving::on_packet))]
     pub fn datagram(
         &mut self,
@@ -149,7 +150,11 @@ impl<T: ConnTable> Rules<T> {
         ensures rest { OnErr result (KeepsRest (length body.now) (server_of T.conns self.old) (server_of T.conns self.new)) }
     {
         match decode(Link::RawIp, body, true) {
-            Packet::Segment(seg) => self.addressed(alloc, now, &seg, text_of(&seg, body), out),
+            Packet::Segment(seg) => {
+                let text = reset_text(&seg, text_of(&seg, body));
+                let pointer = urgent_in(&seg, body);
+                self.addressed(alloc, now, pointer, &as_reset(&seg), text, out)
+            }
             Packet::Other => match too_long_in(body) {
                 Some(too_long) => self.shorten(alloc, &too_long, out),
                 None => self.report(alloc, now, body, out),
@@ -445,12 +450,13 @@ impl<T: ConnTable> Rules<T> {
         }
     }
 
-    /// A segment with right sums.
+    /// A segment with right sums, and its urgent pointer, where URG is set.
     #[tactic(auto, unfolding(crate::specs::Serving::addressed))]
     fn addressed(
         &mut self,
         alloc: Global,
         now: u64,
+        pointer: Option<u16>,
         seg: &Seg,
         text: &[u8],
         out: &mut Vec<Datagram>,
@@ -458,10 +464,10 @@ impl<T: ConnTable> Rules<T> {
         requires good { T.good self.old.table }
         requires time { now ≤ last_time }
         ensures good { T.good self.new.table }
-        ensures server { OnOk result (server_of T.conns self.new ≡ (addressed now seg.now text.now (server_of T.conns self.old)).server) }
-        ensures sent { OnOk result (out.new.items ≡ out.old.items ++ (addressed now seg.now text.now (server_of T.conns self.old)).sent) }
-        ensures wrote { OnErr result (HasSent out.old.items out.new.items (addressed now seg.now text.now (server_of T.conns self.old)).sent) }
-        ensures told { OnOk result (T.tells self.old.table (told_addressed now seg.now text.now (server_of T.conns self.old)) self.new.table) }
+        ensures server { OnOk result (server_of T.conns self.new ≡ (addressed now pointer seg.now text.now (server_of T.conns self.old)).server) }
+        ensures sent { OnOk result (out.new.items ≡ out.old.items ++ (addressed now pointer seg.now text.now (server_of T.conns self.old)).sent) }
+        ensures wrote { OnErr result (HasSent out.old.items out.new.items (addressed now pointer seg.now text.now (server_of T.conns self.old)).sent) }
+        ensures told { OnOk result (T.tells self.old.table (told_addressed now pointer seg.now text.now (server_of T.conns self.old)) self.new.table) }
         ensures lost { OnErr result (Costs seg.now (server_of T.conns self.old) (server_of T.conns self.new)) }
         ensures rest { OnErr result (KeepsRest (length text.now) (server_of T.conns self.old) (server_of T.conns self.new)) }
     {
@@ -469,7 +475,14 @@ impl<T: ConnTable> Rules<T> {
             self.counts.astray = self.counts.astray.wrapping_add(1);
             Ok(())
         } else if is_served_at(&self.setting.ports, seg.dst_port) {
-            self.segment(alloc, now, &limited(seg, self.setting.segment), text, out)
+            self.urgent(
+                alloc,
+                now,
+                pointer,
+                &limited(seg, self.setting.segment),
+                text,
+                out,
+            )
         } else {
             self.refuse(alloc, now, seg, out)
         }
@@ -493,7 +506,7 @@ impl<T: ConnTable> Rules<T> {
     }
 
     /// A segment to a service. Where its text would take all past what they may hold, it counts without it.
-    fn segment(
+    pub(crate) fn segment(
         &mut self,
         alloc: Global,
         now: u64,

@@ -81,7 +81,7 @@ impl Server {
     /// verified. An echo request is answered, an order of the host is obeyed, a router's message that a segment was too long is told to
     /// the segment's connection, and what else is no whole TCP segment is passed over. An error says that memory was missing: then the
     /// segment's own connection may be gone, with half-open ones that gave way, and some of what is to be sent is missing. All else stays
-    /// but who may give way, what is held, and three counts.
+    /// but who may give way, what is held, and four counts.
     pub fn datagram(
         &mut self,
         alloc: Global,

@@ -9,6 +9,7 @@ ghost use Rattle.live_server.specs.Leaving.{peer_of, without_leaving};
 ghost use Rattle.live_server.specs.PathMtu.{shortens};
 ghost use Rattle.live_server.specs.Serving.{is_waiting};
 ghost use Rattle.live_server.specs.Unreached.{reported};
+ghost use Rattle.live_server.specs.Urgent.{urges};
 ghost use Rattle.live_server.specs.Table.{all_reached, conn_at, held_by, place_of, reached_until, replaced, settled, without, without_over, IsNew};
 ghost use Rattle.live_server.specs.Written.{HasSent};
 ghost use Rattle.live_server.specs.declared.conn.Met.TheVariants.{Gone};
@@ -100,6 +101,19 @@ impl ConnTable for Table {
         out: &mut Vec<Datagram>,
     ) -> Result<Met, AllocError> {
         shorten_at(self, place, alloc, seq, most, tuple, out)
+    }
+
+    fn urge(
+        &mut self,
+        place: usize,
+        alloc: Global,
+        now: u64,
+        pointer: u16,
+        seg: &Seg,
+        tuple: &Tuple,
+        out: &mut Vec<Datagram>,
+    ) -> Result<Met, AllocError> {
+        urge_at(self, place, alloc, now, pointer, seg, tuple, out)
     }
 
     fn reach_all(
@@ -311,6 +325,41 @@ fn shorten_at(
 {
     let (_, conn) = table.pair_mut(place);
     match conn.shorten(alloc, seq, most, tuple, out) {
+        Ok(met) => {
+            settle(table, place);
+            Ok(met)
+        }
+        Err(error) => {
+            leave(table, place);
+            Err(error)
+        }
+    }
+}
+
+/// A segment with URG says to the connection at a place where urgent data ends. The connection leaves where it is over, or where memory is missing.
+/// The answer says whether it is news.
+#[tactic(auto, unfolding(crate::specs::Table::replaced))]
+fn urge_at(
+    table: &mut Table,
+    place: usize,
+    alloc: Global,
+    now: u64,
+    pointer: u16,
+    seg: &Seg,
+    tuple: &Tuple,
+    out: &mut Vec<Datagram>,
+) -> Result<Met, AllocError>
+    requires { place_of tuple.now table.old.entries ≡ Some place }
+    ensures met { IfOk result (λ m. m ≡ (urges now pointer seg.now tuple.now (conn_at place table.old.entries)).met) }
+    ensures table { OnOk result (table.new.entries ≡ replaced place
+        (urges now pointer seg.now tuple.now (conn_at place table.old.entries)).conn table.old.entries) }
+    ensures sent { OnOk result (out.new.items ≡ out.old.items
+        ++ (urges now pointer seg.now tuple.now (conn_at place table.old.entries)).sent) }
+    ensures wrote { OnErr result (HasSent out.old.items out.new.items (urges now pointer seg.now tuple.now (conn_at place table.old.entries)).sent) }
+    ensures lost { OnErr result (table.new.entries ≡ without place table.old.entries) }
+{
+    let (_, conn) = table.pair_mut(place);
+    match conn.urge(alloc, now, pointer, seg, tuple, out) {
         Ok(met) => {
             settle(table, place);
             Ok(met)
