@@ -8,6 +8,7 @@ pub mod PlaceLemmas
 pub mod HeldLemmas
 pub mod TurnLemmas
 pub mod ReachLemmas
+pub mod RepairLemmas
 pub mod ServerLemmas
 pub mod LawLemmas
 pub mod AgeLemmas

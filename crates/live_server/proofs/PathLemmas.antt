@@ -19,7 +19,7 @@ use Rattle.tcb_machine.specs.declared.kinds.State.{State}
 use Rattle.tcb_machine.specs.declared.kinds.State.TheVariants.{CloseWait, Closing, Established, FinWait1, FinWait2, LastAck, Listen, SynReceived, TimeWait}
 use Rattle.live_server.specs.Acts.{after, judged, resent}
 use Rattle.live_server.specs.Addresses.{is_to_us}
-use Rattle.live_server.specs.Congestion.{eased, flight, is_open, restarted, seen}
+use Rattle.live_server.specs.Congestion.{flight, is_open, restarted}
 use Rattle.live_server.specs.Isolation.{IsTable, TooLongIsApart, conn_of, kept_as}
 use Rattle.live_server.specs.PathMtu.{is_heeded, path_told, shortened, shortens, text_in_mtu}
 use Rattle.live_server.specs.Promises.{HeededIsShort, IsShort, PathIsBounded, PlacedStaysShort, RestartIsWide, UnsentIsIgnored}
@@ -30,7 +30,7 @@ use Rattle.live_server.specs.declared.conn.Met.{Met}
 use Rattle.live_server.specs.declared.conn.Met.TheVariants.{Gone, Judged as judges}
 use Rattle.live_server.proofs.LawLemmas.{become_look, become_table, chosen, placed_at}
 use Rattle.live_server.proofs.SentLemmas.{AreOfEnds, of_replies}
-use Rattle.live_server.proofs.ShortLemmas.{AreShort, Short, after_short, kept_most, placed_says, resent_short}
+use Rattle.live_server.proofs.ShortLemmas.{AreShort, Short, after_short, kept_most, placed_says, resent_short, seen_by}
 use Rattle.live_server.proofs.TableLemmas.{tuple_equivalence}
 
 -- ---- one connection
@@ -61,7 +61,7 @@ placed_short now iss s text c alive valid h =
     let n = max least_mss c.most in
     let j = judged now s text c in
     let its : Short n c.tcb = record { agreed = h.agreed; sent = h.sent } in
-    let says = placed_says n now iss (seen s c.tcb (eased s c.tcb c.congestion)) text c.tcb alive its in
+    let says = placed_says n now iss (seen_by now s c) text c.tcb alive its in
     let one = after_short n (omega arith) j now iss s text c says valid its in
     let same = kept_most j now iss s text c in (
       record {

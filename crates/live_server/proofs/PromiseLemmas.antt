@@ -1,19 +1,21 @@
 -- Text that counts, challenges of one connection, and the congestion window.
-use Rattle.std.proofs.Common.{◌≡◌, ℕ, zero, suc, ◌+◌, ◌-◌, ◌*◌, ◌/◌, ◌^◌, ◌<◌, ◌≤◌, min, max, nat_le, nat_lt, ◌||◌, not, ◌==◌, Bool, true, false, cond, List, [], ◌∷◌, ◌++◌, length, slice_get, Option, None, Some, refl, sym, ap, subst, ◌∙◌, arith, true≢false}
+use Rattle.std.proofs.Common.{◌≡◌, ℕ, zero, suc, ◌+◌, ◌-◌, ◌*◌, ◌/◌, ◌^◌, ◌<◌, ◌≤◌, min, max, nat_le, nat_lt, ◌&&◌, ◌||◌, not, ◌==◌, Bool, true, false, cond, List, [], ◌∷◌, ◌++◌, length, slice_get, Option, None, Some, refl, sym, ap, subst, ◌∙◌, arith, true≢false}
 use Rattle.std.specs.Option.{option_map_or}
-use Rattle.std.proofs.Math.Nat.{div-mul-le_self, mul-le-mul_right, one-mul}
+use Rattle.std.proofs.Math.Nat.{div-mul-le_self, mul-le-mul_left, mul-le-mul_right, one-mul}
 use Rattle.std.proofs.lemmas.Bool.Decides.{nat_tests}
+use Rattle.std.proofs.lemmas.Nat.{div_below}
 use Rattle.std.proofs.lemmas.Option.{none-some, same_Some}
 use Rattle.segment_codec.specs.ControlBits.{syn}
 use Rattle.segment_codec.specs.Refusal.{tuple_of}
 use Rattle.segment_codec.specs.declared.packet.Seg.{Seg}
+use Rattle.sq_base.specs.SerialOrder.{dist}
 use Rattle.sq_base.specs.declared.kinds.Tuple.{Tuple}
 use Rattle.tcb_machine.specs.BlockState.{Block, has}
 use Rattle.tcb_machine.specs.Challenges.{is_syn_received}
-use Rattle.live_server.specs.Acts.{after, allowed, bared, challenged, emptied, is_allowed, is_over, judged, new_conn, provokes, reached, taken, takes, ticked}
-use Rattle.live_server.specs.Congestion.{begun, eased, grown, halved, is_at_recover, is_duplicate, is_fresh, reaches, recovers, repeated, seen_window, timed_out, tolerance}
+use Rattle.live_server.specs.Acts.{after, allowed, bared, challenged, emptied, is_allowed, is_over, judged, new_conn, provokes, reached, repaired, taken, takes, ticked}
+use Rattle.live_server.specs.Congestion.{acknowledges, again_up_to, begun, eased, first_window, flight, grown, halved, is_at_recover, is_duplicate, is_fresh, reaches, recovers, repeated, rested, seen_window, slowly, timed_out, tolerance, under_way, usable, within}
 use Rattle.live_server.specs.Limits.{challenge_interval}
-use Rattle.live_server.specs.Promises.{BeginsBeyondRecover, ChallengesAreApart, Coming, FirstIsWide, IsWide, SegmentKeepsWide, ShownIsNarrow, TextIsBounded, TextIsCounted, TimeCountsAnew, TimeoutIsWide, came, challenges, segment, time, when_challenged}
+use Rattle.live_server.specs.Promises.{AgainIsWithin, BeginsBeyondRecover, ChallengesAreApart, Coming, FirstIsWide, IsWide, SegmentKeepsWide, ShownIsNarrow, SilenceIsNarrow, SlowStartIsSlow, TextIsBounded, TextIsCounted, TimeCountsAnew, TimeoutIsNarrow, TimeoutIsWide, came, challenges, segment, time, when_challenged}
 use Rattle.live_server.specs.Serving.{ServerOf, admits, becomes, comes, fits, gives_way, goes_on, has_place, heeded, heeded_text, heeds, holding, is_waiting, makes_place, noting, on_segment, on_time, opens, overfull, refuses, sends_nothing, sends_of, served, takes_free, takes_place, time_to, turns_away, yielding, yields, yields_at}
 use Rattle.live_server.specs.Services.{service_at}
 use Rattle.live_server.specs.Table.{conn_at, place_of}
@@ -160,7 +162,7 @@ unfolding emptied
 ticked_quiet measures now c = refl
 
 allowed_quiet : (now iss : ℕ) (s : Seg) (c : Conn) → (allowed now iss s c).quiet_until ≡ c.quiet_until
-unfolding allowed taken
+unfolding allowed taken repaired
 allowed_quiet now iss s c = by (is_allowed s c.tcb)
   where
     by : (b : Bool) → (cond b (taken now iss (bared s c.tcb) [] c) c).quiet_until ≡ c.quiet_until
@@ -168,7 +170,7 @@ allowed_quiet now iss s c = by (is_allowed s c.tcb)
     by false = refl
 
 came_quiet : (j : Judged) (now iss : ℕ) (s : Seg) (text : List ℕ) (c : Conn) → (emptied (after j now iss s text c)).quiet_until ≡ (elim j [ Taken ↦ c.quiet_until | Challenged ↦ now + challenge_interval | Unanswered ↦ c.quiet_until | Late ↦ c.quiet_until ])
-unfolding emptied after taken challenged
+unfolding emptied after taken repaired challenged
 came_quiet Taken now iss s text c = refl
 came_quiet Challenged now iss s text c = refl
 came_quiet Unanswered now iss s text c = allowed_quiet now iss s c
@@ -209,12 +211,12 @@ challenges_apart xs c k a b at next = spaced_at c.quiet_until (challenges xs c) 
 pub first_wide : FirstIsWide
 first_wide b few = omega (arith, few)
 
-halved_wide : (b : Block) → 2 * b.agreed.mss ≤ halved b
-halved_wide b = omega arith
+halved_wide : (n : ℕ) (b : Block) → 2 * b.agreed.mss ≤ halved n b
+halved_wide n b = omega arith
 
 pub timeout_wide : TimeoutIsWide
 unfolding timed_out
-timeout_wide b x = halved_wide b
+timeout_wide b x = halved_wide (flight b) b
 
 chosen_wide : (b : Block) (which : Bool) (x y : Congestion) → IsWide b x → IsWide b y → IsWide b (cond which x y)
 chosen_wide b true x y here there = here
@@ -228,11 +230,15 @@ grown_wide : (n : ℕ) (b : Block) (x : Congestion) → IsWide b x → IsWide b 
 unfolding grown
 grown_wide n b x wide = wide
 
+slowly_wide : (n : ℕ) (s : Seg) (b : Block) (x : Congestion) → IsWide b x → IsWide b (slowly n s b x)
+unfolding slowly
+slowly_wide n s b x wide = grown_wide n b x wide
+
 repeated_wide : (b : Block) (x : Congestion) → IsWide b x → IsWide b (repeated b x)
 unfolding repeated
 repeated_wide b x wide =
-    chosen_wide b x.recovering _ _ wide
-    (chosen_wide b (is_at_recover b x) _ _ wide (chosen_wide b (nat_lt (x.duplicates + 1) (tolerance b)) _ _ wide (halved_wide b)))
+    chosen_wide b x.recovering _ _ (chosen_wide b x.slow _ _ wide wide)
+    (chosen_wide b (is_at_recover b x) _ _ wide (chosen_wide b (nat_lt (x.duplicates + 1) (tolerance (within b x) b)) _ _ wide (halved_wide (within b x) b)))
 
 begun_wide : (b : Block) (x : Congestion) → IsWide b x → IsWide b (begun b x)
 unfolding begun
@@ -242,7 +248,8 @@ pub segment_wide : SegmentKeepsWide
 unfolding eased
 segment_wide s b x wide =
     chosen_wide b (is_syn_received b.state) _ _ (begun_wide b x wide)
-    (chosen_wide b (is_fresh s b) _ _ (chosen_wide b x.recovering _ _ (recovers_wide _ s b x wide) (grown_wide _ b x wide))
+    (chosen_wide b (is_fresh s b) _ _
+    (chosen_wide b x.recovering _ _ (chosen_wide b x.slow _ _ (slowly_wide _ s b x wide) (recovers_wide _ s b x wide)) (grown_wide _ b x wide))
     (chosen_wide b (is_duplicate s b x) _ _ (repeated_wide b x wide) wide))
 
 -- ---- recovery
@@ -280,6 +287,95 @@ begins_beyond s b x none there =
     (quiet_chosen (is_fresh s b) _ _ (quiet_rest x _ _ none (grown_quiet _ b x none))
     (quiet_chosen (is_duplicate s b x) _ _ (repeated_quiet b x none there) none))
 
+-- ---- slow start behind a timeout
+pub timeout_narrow : TimeoutIsNarrow
+unfolding timed_out
+timeout_narrow b x = omega arith
+
+-- mss * mss / w is no more than mss
+few_more : (mss w : ℕ) → 1 ≤ mss → mss ≤ w → max 1 (mss * mss / max 1 w) ≤ mss
+few_more mss w some wide =
+    let most : mss * mss ≤ mss * max 1 w = mul-le-mul_left mss (omega (arith, wide)) in
+    let below : mss * mss < suc mss * max 1 w = omega (arith, most) in
+    omega (arith, some, div_below (mss * mss) (max 1 w) (suc mss) (omega arith) below)
+
+grown_few : (n : ℕ) (b : Block) (x : Congestion) → 1 ≤ b.agreed.mss → IsWide b x → (grown n b x).window ≤ x.window + b.agreed.mss
+unfolding grown
+grown_few n b x some wide = by (nat_lt x.window x.threshold) refl
+  where
+    by : (t : Bool) → nat_lt x.window x.threshold ≡ t
+        → min 131072 (x.window + cond t (min n b.agreed.mss) (max 1 (b.agreed.mss * b.agreed.mss / max 1 x.window))) ≤ x.window + b.agreed.mss
+    by true e = omega arith
+    by false e =
+        let past : x.threshold ≤ x.window = grind (arith, nat_tests, e) in
+        omega (arith, few_more b.agreed.mss x.window some (omega (arith, past, wide)))
+
+slowly_few : (n : ℕ) (s : Seg) (b : Block) (x : Congestion) → 1 ≤ b.agreed.mss → IsWide b x → (slowly n s b x).window ≤ x.window + b.agreed.mss
+unfolding slowly
+slowly_few n s b x some wide = grown_few n b x some wide
+
+few_where : (n : ℕ) (which : Bool) (x y : Congestion) → which ≡ true → x.window ≤ n → (cond which x y).window ≤ n
+few_where n true x y e few = few
+few_where n false x y e few = absurd (true≢false (sym e))
+
+both : (a b : Bool) → (a && b) ≡ true → (a ≡ true) × (b ≡ true)
+both true true e = (refl, refl)
+both true false e = absurd (true≢false (sym e))
+both false b e = absurd (true≢false (sym e))
+
+begun_few : (b : Block) (x : Congestion) → x.recovering ≡ true → (begun b x).window ≤ x.window
+unfolding begun
+begun_few b x is = few_where x.window x.recovering x _ is (omega arith)
+
+repeated_few : (b : Block) (x : Congestion) → x.recovering ≡ true → x.slow ≡ true → (repeated b x).window ≤ x.window
+unfolding repeated
+repeated_few b x is slow = few_where x.window x.recovering _ _ is (few_where x.window x.slow x _ slow (omega arith))
+
+pub slow_segment : SlowStartIsSlow
+unfolding eased
+slow_segment s b x some slow wide = by (is_syn_received b.state) (is_fresh s b) (is_duplicate s b x)
+  where
+    is : x.recovering ≡ true
+    is = (both x.recovering x.slow slow).0
+
+    its : x.slow ≡ true
+    its = (both x.recovering x.slow slow).1
+
+    n : ℕ
+    n = dist b.una s.ack
+
+    by : (half fresh again : Bool)
+        → (cond half (begun b x) (cond fresh (acknowledges n s b x) (cond again (repeated b x) x))).window ≤ x.window + cond fresh b.agreed.mss 0
+    by true fresh again = omega (arith, begun_few b x is)
+    by false true again =
+        let few = slowly_few n s b x some wide in
+        few_where (x.window + b.agreed.mss) x.recovering _ _ is (few_where (x.window + b.agreed.mss) x.slow (slowly n s b x) _ its few)
+    by false false true = omega (arith, repeated_few b x is its)
+    by false false false = omega arith
+
+pub again_within : AgainIsWithin
+unfolding again_up_to
+again_within window b x = by (nat_le (under_way b x) (min window x.window)) refl
+  where
+    most : ℕ
+    most = min window x.window
+
+    by : (t : Bool) → nat_le (under_way b x) most ≡ t
+        → cond t (max x.again (under_way b x)) (x.again + (most - x.again) / b.agreed.mss * b.agreed.mss) ≤ max x.again most
+    by true e = let few : under_way b x ≤ most = grind (arith, nat_tests, e) in omega (arith, few)
+    by false e = omega (arith, div-mul-le_self (most - x.again) b.agreed.mss)
+
+-- ---- silence
+pub silence_narrow : SilenceIsNarrow
+unfolding rested
+silence_narrow now rto b x none late = by (flight b == 0) (nat_lt (x.sent + rto) now) (grind (arith, nat_tests, none)) (grind (arith, nat_tests, late))
+  where
+    by : (idle past : Bool) → idle ≡ true → past ≡ true
+        → (cond (idle && past) (record x { window = min x.window (first_window b.agreed.mss) }) x).window ≤ first_window b.agreed.mss
+    by true true e f = omega arith
+    by true false e f = absurd (true≢false (sym f))
+    by false past e f = absurd (true≢false (sym e))
+
 pub shown_narrow : ShownIsNarrow
 unfolding seen_window
 shown_narrow s b x plain = by (has s.flags syn) (s.wnd == 0) plain refl
@@ -288,24 +384,24 @@ shown_narrow s b x plain = by (has s.flags syn) (s.wnd == 0) plain refl
     unit = 2 ^ b.agreed.snd_shift
 
     share : ℕ
-    share = x.window / unit
+    share = usable b x / unit
 
-    whole : share * unit ≤ x.window
-    whole = div-mul-le_self x.window unit
+    whole : share * unit ≤ usable b x
+    whole = div-mul-le_self (usable b x) unit
 
-    few : (m : ℕ) → m ≤ share → max 1 m * unit ≤ max unit x.window
+    few : (m : ℕ) → m ≤ share → max 1 m * unit ≤ max unit (usable b x)
     few zero h = omega (arith, one-mul unit)
     few (suc m) h =
         let more : suc m * unit ≤ share * unit = mul-le-mul_right unit h in
         let same : suc m ≡ max 1 (suc m) = omega arith in
-        subst (λ (n : ℕ). n * unit ≤ max unit x.window) same (omega (arith, whole, more))
+        subst (λ (n : ℕ). n * unit ≤ max unit (usable b x)) same (omega (arith, whole, more))
 
     by : (opens closed : Bool) → opens ≡ false → (s.wnd == 0) ≡ closed
-        → (cond (opens || closed) s.wnd (max 1 (min s.wnd share)) * unit ≤ max unit x.window) × (cond (opens || closed) s.wnd (max 1 (min s.wnd share)) ≤ s.wnd)
+        → (cond (opens || closed) s.wnd (max 1 (min s.wnd share)) * unit ≤ max unit (usable b x)) × (cond (opens || closed) s.wnd (max 1 (min s.wnd share)) ≤ s.wnd)
     by true closed other e = absurd (true≢false other)
     by false true other e =
         let none : s.wnd ≡ 0 = grind (arith, nat_tests, e) in
-        (subst (λ (n : ℕ). n * unit ≤ max unit x.window) (sym none) (omega arith), omega arith)
+        (subst (λ (n : ℕ). n * unit ≤ max unit (usable b x)) (sym none) (omega arith), omega arith)
     by false false other e =
         let some : 1 ≤ s.wnd = grind (arith, nat_tests, e) in
         (few (min s.wnd share) (omega arith), omega (arith, some))

@@ -1,5 +1,5 @@
 -- The text of a segment that is sent is no longer than what its path takes.
-use Rattle.std.proofs.Common.{◌≡◌, ℕ, zero, suc, ◌+◌, ◌-◌, ◌≤◌, min, max, nat_le, nat_lt, Bool, true, false, cond, not, ◌==◌, ◌&&◌, ◌||◌, List, [], ◌∷◌, ◌++◌, length, take, drop, Option, None, Some, refl, sym, ap, subst, arith, length-take}
+use Rattle.std.proofs.Common.{◌≡◌, ℕ, zero, suc, ◌+◌, ◌-◌, ◌*◌, ◌%◌, ◌^◌, ◌≤◌, min, max, nat_le, nat_lt, Bool, true, false, cond, not, ◌==◌, ◌&&◌, ◌||◌, List, [], ◌∷◌, ◌++◌, length, take, drop, Option, None, Some, refl, sym, ap, subst, arith, length-take}
 use Rattle.std.specs.List.{AllByRecursion}
 use Rattle.std.proofs.lemmas.Bool.{false≢true}
 use Rattle.byte_queues.specs.ReceiveQueue.{Recv, is_ended, next_of, placed}
@@ -27,15 +27,15 @@ use Rattle.echo_services.specs.Serving.{followed}
 use Rattle.echo_services.proofs.PumpsLemmas.{chargen-pumps, daytime-pumps, discard-pumps, echo-pumps}
 use Rattle.page_service.specs.Site.{site, site-sound}
 use Rattle.page_service.proofs.PumpsLemmas.{pump-pumps}
-use Rattle.live_server.specs.Acts.{after, allowed, bared, challenged, closed, is_allowed, is_outside, is_over, is_waited_for, judged, pruned, reached, reaches, renewed, resent, taken}
-use Rattle.live_server.specs.Congestion.{calls_again, eased, seen}
+use Rattle.live_server.specs.Acts.{after, allowed, bared, challenged, closed, gone_back, is_allowed, is_outside, is_over, is_waited_for, judged, pruned, reached, reaches, renewed, repaired, resent, taken}
+use Rattle.live_server.specs.Congestion.{again_up_to, calls_again, eased, is_fresh, is_slow, resends, rested, seen, segments}
 use Rattle.live_server.specs.DaytimeText.{daytime_text}
 use Rattle.live_server.specs.Promises.{NewIsShort, SegmentKeepsShort, TimeKeepsShort}
 use Rattle.live_server.specs.Services.{pump_of}
 use Rattle.live_server.specs.Serving.{limited}
 use Rattle.live_server.specs.Timing.{clocked, is_started, mark_of, retimed, timeout}
 use Rattle.live_server.specs.declared.timing.Mark.{Mark}
-use Rattle.tcb_machine.specs.Beside.{retiming}
+use Rattle.tcb_machine.specs.Beside.{resending, retiming}
 use Rattle.live_server.specs.declared.conn.Conn.{Conn}
 use Rattle.live_server.specs.declared.conn.Judged.{Judged}
 use Rattle.live_server.specs.declared.conn.Judged.TheVariants.{Challenged, Late, Taken, Unanswered}
@@ -402,6 +402,10 @@ module _ (n : ℕ) where
         by false e = at_time to (fires_all (firings to b) b) (all_timers b.time_wait_at b.retransmit_at to b (while_open b e h))
 
 -- ---- a connection
+-- a segment as its block sees it
+abbrev pub seen_by : ℕ → Seg → Conn → Seg
+seen_by now s c = seen s c.tcb (eased s c.tcb (rested now (timeout c.timing) c.tcb c.congestion))
+
 pumps_of : (service : LiveService) → IsPump (pump_of service)
 unfolding pump_of
 pumps_of Echo = echo-pumps
@@ -428,6 +432,16 @@ module _ (n : ℕ) (some : 1 ≤ n) where
   unfolding retimed retiming
   retimed_short rto m b h = short_cond n (is_started m b) (retiming rto b) b (record { agreed = h.agreed; sent = h.sent }) h
 
+  resending_open : (from m : ℕ) (b : Block) → m ≤ n → Open n b → Open n (resending from m b)
+  unfolding resending
+  resending_open from m b few h =
+      let text : length (take m (drop from b.out)) ≤ n = omega (arith, few, length-take m (drop from b.out)) in
+      sends_open n _ b (text_of n (psh + ack) ((b.una + from) % 2 ^ 32) (take m (drop from b.out)) b text) h
+
+  resends_open : (k from to : ℕ) (b : Block) → Open n b → Open n (resends k from to b)
+  resends_open zero from to b h = h
+  resends_open (suc k) from to b h = resending_open _ _ (resends k from to b) (omega (arith, h.agreed)) (resends_open k from to b h)
+
   pub resent_short : (called : Bool) (b : Block) → Short n b → Short n (resent called b)
   unfolding resent
   resent_short called b h = by (called && (not (is_listen b.state) && not (b.una == snd_nxt b))) refl
@@ -441,20 +455,36 @@ module _ (n : ℕ) (some : 1 ≤ n) where
       by true e = short n (retransmits b.state b) (resent_open n some b.state b (while_open n b (opens called (is_listen b.state) (not (b.una == snd_nxt b)) e) h))
       by false e = h
 
+  back_short : (from to : ℕ) (b : Block) → Short n b → Short n (gone_back from to b)
+  unfolding gone_back
+  back_short from to b h = by (is_listen b.state) (nat_lt from to) refl
+    where
+      by : (l t : Bool) → is_listen b.state ≡ l → Short n (cond (not l && t) (resends (segments (to - from) b) from to b) (resent (to == 0) b))
+      by false true e = short n _ (resends_open (segments (to - from) b) from to b (while_open n b e h))
+      by false false e = resent_short (to == 0) b h
+      by true t e = resent_short (to == 0) b h
+
+  repaired_short : (field : ℕ) (fresh again : Bool) (c : Conn) → Short n c.tcb → Short n (repaired field fresh again c).tcb
+  unfolding repaired
+  repaired_short field fresh again c h =
+      let to = again_up_to (field * 2 ^ c.tcb.agreed.snd_shift) c.tcb c.congestion in
+      short_cond n (fresh && is_slow c.congestion) (gone_back c.congestion.again to c.tcb) (resent again c.tcb) (back_short c.congestion.again to c.tcb h)
+      (resent_short again c.tcb h)
+
   -- what its block makes of a segment, as the block sees that
   abbrev SaysOf : ℕ → ℕ → Seg → List ℕ → Conn → Type 0
-  SaysOf now iss s text c = Says n (tcp_segment now iss (seen s c.tcb (eased s c.tcb c.congestion)) text c.tcb)
+  SaysOf now iss s text c = Says n (tcp_segment now iss (seen_by now s c) text c.tcb)
 
   taken_short : (now iss : ℕ) (s : Seg) (text : List ℕ) (c : Conn) → SaysOf now iss s text c → IsValid c.tcb → Short n (taken now iss s text c).tcb
   unfolding taken
   taken_short now iss s text c says valid =
-      let t = seen s c.tcb (eased s c.tcb c.congestion) in
+      let t = seen_by now s c in
       let b = followed (pump_of c.service) (tcp_segment now iss t text c.tcb) in
       let one = followed_short (pump_of c.service) (pumps_of c.service) (record c.tcb { clock = now }) (tcp_segment now iss t text c.tcb) (segment-says now iss t text c.tcb valid) says in
-      let again = calls_again s c.tcb c.congestion in
+      let again = calls_again s c.tcb (rested now (timeout c.timing) c.tcb c.congestion) in
       let m = mark_of c.tcb in
       let rto = timeout (clocked now again m b c.timing) in
-      resent_short again (renewed c.tcb.una s.wnd (retimed rto m b)) (renewed_short c.tcb.una s.wnd (retimed rto m b) (retimed_short rto m b one))
+      repaired_short s.wnd (is_fresh s c.tcb) again _ (renewed_short c.tcb.una s.wnd (retimed rto m b) (retimed_short rto m b one))
 
   -- where a closed window lets it count
   allowed_open : (s : Seg) (b : Block) → is_allowed s b ≡ true → is_listen b.state ≡ false
@@ -475,7 +505,7 @@ module _ (n : ℕ) (some : 1 ≤ n) where
       t = bared s c.tcb
 
       by : (b : Bool) → is_allowed s c.tcb ≡ b → Short n (cond b (taken now iss t [] c) c).tcb
-      by true e = taken_short now iss t [] c (placed_says n now iss (seen t c.tcb (eased t c.tcb c.congestion)) [] c.tcb (allowed_open s c.tcb e) h) valid
+      by true e = taken_short now iss t [] c (placed_says n now iss (seen_by now t c) [] c.tcb (allowed_open s c.tcb e) h) valid
       by false e = h
 
   challenged_short : (now : ℕ) (c : Conn) → Short n c.tcb → Short n (challenged now c).tcb
@@ -494,7 +524,7 @@ module _ (n : ℕ) (some : 1 ≤ n) where
   reached_short now b valid h = short_cond n (nat_le b.clock now) (tcp_time now b) b (time_short n some now b valid h) h
 
 allowed_most : (now iss : ℕ) (s : Seg) (c : Conn) → (allowed now iss s c).most ≡ c.most
-unfolding allowed taken
+unfolding allowed taken repaired
 allowed_most now iss s c = by (is_allowed s c.tcb)
   where
     by : (b : Bool) → (cond b (taken now iss (bared s c.tcb) [] c) c).most ≡ c.most
@@ -502,7 +532,7 @@ allowed_most now iss s c = by (is_allowed s c.tcb)
     by false = refl
 
 pub kept_most : (j : Judged) (now iss : ℕ) (s : Seg) (text : List ℕ) (c : Conn) → (after j now iss s text c).most ≡ c.most
-unfolding after taken challenged
+unfolding after taken repaired challenged
 kept_most Taken now iss s text c = refl
 kept_most Challenged now iss s text c = allowed_most now iss s c
 kept_most Unanswered now iss s text c = allowed_most now iss s c
@@ -521,7 +551,7 @@ segment_short now iss s text c valid h =
     let t = limited c.most s in
     let j = judged now t text c in
     let its : Short n c.tcb = record { agreed = h.agreed; sent = h.sent } in
-    let says = segment_says n (seen t c.tcb (eased t c.tcb c.congestion)) (limited_mss c.most s) now iss text c.tcb its in
+    let says = segment_says n (seen_by now t c) (limited_mss c.most s) now iss text c.tcb its in
     let one = after_short n (omega arith) j now iss t text c says valid its in
     let same = kept_most j now iss t text c in
     record {

@@ -1,5 +1,5 @@
 -- What one connection makes of a segment and of the time, and the datagrams of what it sends.
-use Rattle.std.specs.Prelude.{ℕ, ◌+◌, ◌-◌, ◌%◌, ◌^◌, ◌==◌, nat_le, nat_lt, ◌&&◌, ◌||◌, not, Bool, false, Option, None, Some}
+use Rattle.std.specs.Prelude.{ℕ, ◌+◌, ◌-◌, ◌%◌, ◌*◌, ◌^◌, ◌==◌, nat_le, nat_lt, ◌&&◌, ◌||◌, not, Bool, false, Option, None, Some}
 use Rattle.std.specs.Prelude.{List, [], ◌∷◌, ◌++◌, length, map, if◌then◌else◌}
 use Rattle.sq_base.specs.SerialOrder.{dist}
 use Rattle.byte_queues.specs.Limits.{send_space}
@@ -19,7 +19,7 @@ use Rattle.tcb_machine.specs.States.{is_consumed, is_listen}
 use Rattle.tcb_machine.specs.TcpStep.{tcp_segment}
 use Rattle.tcb_machine.specs.Timers.{retransmits, tcp_time}
 use Rattle.tcb_machine.specs.declared.kinds.Call.TheVariants.{Close}
-use Rattle.live_server.specs.Congestion.{calls_again, eased, is_open, no_congestion, seen, timed_out}
+use Rattle.live_server.specs.Congestion.{again_up_to, calls_again, eased, is_fresh, is_open, is_slow, no_congestion, noted, resends, rested, seen, segments, timed_out}
 use Rattle.live_server.specs.declared.congestion.Congestion.{Congestion}
 use Rattle.live_server.specs.Limits.{challenge_interval}
 use Rattle.live_server.specs.Services.{after_pump, pump_of}
@@ -109,22 +109,42 @@ resent again b = if again && (not (is_listen b.state) && not (b.una == snd_nxt b
 unfoldable pub read_nxt : Block → ℕ
 read_nxt b = dist (ready_of b.recv + one_if (is_consumed b.state)) (rcv_nxt b)
 
+-- behind a timeout what was under way goes again, from an offset from SND.UNA to another one; or the first of it, where no whole segment may go
+unfoldable pub gone_back : ℕ → ℕ → Block → Block
+gone_back from to b =
+    if not (is_listen b.state) && nat_lt from to then resends (segments (to - from) b) from to b
+    else resent (to == 0) b
+
+-- so it is where more of it is acknowledged, and not all. Elsewhere the first segment goes again, or none
+unfoldable pub repaired : ℕ → Bool → Bool → Conn → Conn
+repaired field fresh again c =
+    let x = c.congestion in
+    let to = again_up_to (field * 2 ^ c.tcb.agreed.snd_shift) c.tcb x in
+    let goes = fresh && is_slow x in
+    record c {
+      tcb = (if goes then gone_back x.again to c.tcb else resent again c.tcb);
+      congestion = (if goes then record x { again = to } else x);
+    }
+
 -- the block and the service take it, as the congestion window lets it; the timer, where it starts, does so with the timeout of the round trips.
 -- What the service reads is urgent no more (RFC 9293, 3.8.5)
 unfoldable pub taken : ℕ → ℕ → Seg → List ℕ → Conn → Conn
 taken now iss s text c =
-    let x = eased s c.tcb c.congestion in
+    let r = rested now (timeout c.timing) c.tcb c.congestion in
+    let x = eased s c.tcb r in
+    let m = mark_of c.tcb in
     let b = serves (pump_of c.service) (segment now iss (seen s c.tcb x) text ∷ []) c.tcb in
-    let again = calls_again s c.tcb c.congestion in
-    let t = clocked now again (mark_of c.tcb) b c.timing in
-    record c {
-      tcb = resent again (renewed c.tcb.una s.wnd (retimed (timeout t) (mark_of c.tcb) b));
+    let again = calls_again s c.tcb r in
+    let t = clocked now again m b c.timing in
+    let d = renewed c.tcb.una s.wnd (retimed (timeout t) m b) in
+    repaired s.wnd (is_fresh s c.tcb) again (record c {
+      tcb = d;
       service = kept after_pump c.service (tcp_segment now iss (seen s c.tcb x) text c.tcb);
-      congestion = x;
+      congestion = noted now again m d x;
       timing = t;
       urgent = c.urgent - dist (read_nxt c.tcb) (read_nxt b);
       heard = now;
-    }
+    })
 
 -- Where RCV.WND is 0, a segment at RCV.NXT counts, and so does one behind it, where a probe's byte counts as sent (RFC 9293, 3.8.6.1)
 abbrev pub is_waited_for : Seg → Block → Bool

@@ -1,5 +1,5 @@
 -- What the rules promise: of the text that all hold and of that which is sent, of challenges, of who gives way, and of the congestion window.
-use Rattle.std.specs.Prelude.{◌≡◌, ◌≢◌, ℕ, ◌+◌, ◌-◌, ◌*◌, ◌^◌, ◌<◌, ◌≤◌, min, max, Bool, true, false, suc, List, [], ◌∷◌, ◌++◌, length, slice_get, Some, None}
+use Rattle.std.specs.Prelude.{◌≡◌, ◌≢◌, ℕ, ◌+◌, ◌-◌, ◌*◌, ◌^◌, ◌<◌, ◌≤◌, min, max, Bool, true, false, suc, List, [], ◌∷◌, ◌++◌, length, slice_get, Some, None, if◌then◌else◌}
 use Rattle.std.specs.List.{AllByRecursion}
 use Rattle.std.specs.Map.{lookup}
 use Rattle.byte_queues.specs.ReceiveQueue.{front}
@@ -15,7 +15,7 @@ use Rattle.tcb_machine.specs.Shortening.{shortening}
 use Rattle.tcb_machine.specs.TcpStep.{with_window}
 use Rattle.tcb_machine.specs.Validity.{IsValid}
 use Rattle.live_server.specs.Acts.{emptied, is_over, judged, new_conn, reached, receives, ticked}
-use Rattle.live_server.specs.Congestion.{eased, flight, no_congestion, restarted, seen, seen_window, timed_out}
+use Rattle.live_server.specs.Congestion.{again_up_to, eased, first_window, flight, is_fresh, is_slow, no_congestion, rested, restarted, seen, seen_window, timed_out, usable}
 use Rattle.live_server.specs.Isolation.{IsTable, conn_of, staying}
 use Rattle.live_server.specs.Leaving.{keeps_out, share}
 use Rattle.live_server.specs.Limits.{challenge_interval}
@@ -158,22 +158,40 @@ TimeoutIsWide = (b : Block) (x : Congestion) → IsWide b (timed_out b x)
 abbrev pub RestartIsWide : Type 0
 RestartIsWide = (most : ℕ) (b : Block) (x : Congestion) → IsWide b x → IsWide (shortening most b) (restarted (shortening most b) x)
 
--- the window that a block is shown is no wider than cwnd, but for one unit of its scale, which keeps it open; nor than the peer's
+-- the window that a block is shown is no wider than cwnd, with a segment for each of the first two duplicates (RFC 3042), but for one unit of its
+-- scale, which keeps it open; nor than the peer's
 abbrev pub ShownIsNarrow : Type 0
 ShownIsNarrow = (s : Seg) (b : Block) (x : Congestion) → has s.flags syn ≡ false
-    → (seen_window s b x * 2 ^ b.agreed.snd_shift ≤ max (2 ^ b.agreed.snd_shift) x.window) × (seen_window s b x ≤ s.wnd)
+    → (seen_window s b x * 2 ^ b.agreed.snd_shift ≤ max (2 ^ b.agreed.snd_shift) (usable b x)) × (seen_window s b x ≤ s.wnd)
+
+-- Behind a timeout cwnd is one segment at most, and each acknowledgement of new bytes raises it by one at most, up to that of all that was under
+-- way, and with it (RFC 5681, 3.1). No other segment raises it
+abbrev pub TimeoutIsNarrow : Type 0
+TimeoutIsNarrow = (b : Block) (x : Congestion) → (timed_out b x).window ≤ b.agreed.mss
+
+abbrev pub SlowStartIsSlow : Type 0
+SlowStartIsSlow = (s : Seg) (b : Block) (x : Congestion) → 1 ≤ b.agreed.mss → is_slow x ≡ true → IsWide b x
+    → (eased s b x).window ≤ x.window + (if is_fresh s b then b.agreed.mss else 0)
+
+-- What goes again then lies within cwnd and the peer's window, but for what has gone
+abbrev pub AgainIsWithin : Type 0
+AgainIsWithin = (window : ℕ) (b : Block) (x : Congestion) → again_up_to window b x ≤ max x.again (min window x.window)
+
+-- Behind silence cwnd is the restart window at most (RFC 5681, 4.1)
+abbrev pub SilenceIsNarrow : Type 0
+SilenceIsNarrow = (now rto : ℕ) (b : Block) (x : Congestion) → flight b ≡ 0 → x.sent + rto < now → (rested now rto b x).window ≤ first_window b.agreed.mss
 
 -- ---- what is under way
 -- Output sends what the peer's window holds, and at most our FIN beyond that
 abbrev pub OutputIsBounded : Type 0
 OutputIsBounded = (b : Block) → flight (output b) + one_if b.fin_sent ≤ max (flight b) b.wnd + one_if (output b).fin_sent
 
--- So where a block has taken the window that it is shown, no more is under way than cwnd lets, or was before: in bytes, but for one unit of
+-- So where a block has taken the window that it is shown, no more is under way than cwnd and the first two duplicates let, or was before: in bytes, but for one unit of
 -- its scale, and our FIN
 abbrev pub ShownIsKept : Type 0
 ShownIsKept = (s : Seg) (b : Block) (x : Congestion) → has s.flags syn ≡ false
     → flight (output (with_window (seen s b x) b)) + one_if b.fin_sent
-    ≤ max (flight b) (max (2 ^ b.agreed.snd_shift) x.window) + one_if (output (with_window (seen s b x) b)).fin_sent
+    ≤ max (flight b) (max (2 ^ b.agreed.snd_shift) (usable b x)) + one_if (output (with_window (seen s b x) b)).fin_sent
 
 -- ---- text that is sent
 -- A segment has no more text than the path of its connection takes, but for 64 bytes: so it is of all that a connection sent, and of what it

@@ -1,11 +1,14 @@
-//! A congestion window beside a block (RFC 5681, RFC 6582). It acts on the block by the window field of the segments that the block
-//! sees, and by what is sent again.
+//! A congestion window beside a block (RFC 5681, RFC 6582, RFC 3042). It acts on the block by the window field of the segments that the
+//! block sees, and by what is sent again.
 
-ghost use Rattle.std.specs.Prelude.{◌≡◌, ◌+◌, ◌*◌, ◌≤◌, if◌then◌else◌};
+ghost use Rattle.std.specs.Prelude.{◌≡◌, ◌+◌, ◌*◌, ◌<◌, ◌≤◌, if◌then◌else◌};
 ghost use Rattle.sq_base.specs.SerialOrder.{dist};
-ghost use Rattle.live_server.specs.Congestion.{begins_recovery, begun, bounded, calls_again, eased, first_window, flight, grown, halved, is_at_recover, is_duplicate, is_fresh};
-ghost use Rattle.live_server.specs.Congestion.{is_open, no_congestion, reaches, recovers, reopens, repeated, restarted, seen, seen_window, segments, timed_out, tolerance};
+ghost use Rattle.tcb_machine.specs.BlockState.{in_flight};
+ghost use Rattle.tcb_machine.specs.Limits.{last_time, longest_timeout};
+ghost use Rattle.live_server.specs.Congestion.{acknowledges, again_up_to, begins_recovery, begun, bounded, calls_again, eased, first_segment, first_window, flight, grown, halved, is_at_recover, is_duplicate, is_fresh};
+ghost use Rattle.live_server.specs.Congestion.{is_open, is_slow, no_congestion, noted, reaches, recovers, reopens, repeated, rested, restarted, seen, seen_window, segments, slowly, timed_out, tolerance, under_way, usable, within};
 
+use crate::timing::{Mark, is_sending};
 use segment_codec::{ACK, FIN, RST, SYN, Seg};
 use sq_base::seq_dist;
 use tcb_machine::{State, Tcb};
@@ -24,11 +27,17 @@ pub struct Congestion {
     pub threshold: u32,
     /// How many duplicate acknowledgements came since the last new one.
     pub duplicates: u32,
-    /// In fast recovery, up to SND.NXT as it was when that began. Behind it, where SND.UNA is still there, no other one begins.
+    /// In recovery, up to SND.NXT as it was when that began. Behind it, where SND.UNA is still there, no other one begins.
     pub recovering: bool,
+    /// Which the retransmission timer began: it goes by slow start.
+    pub slow: bool,
     pub recover: u32,
+    /// How many bytes from SND.UNA on were sent again since then.
+    pub again: u32,
     /// The peer's last window field.
     pub field: u16,
+    /// When text was last sent, in microseconds.
+    pub sent: u64,
 }
 
 impl Congestion {
@@ -41,8 +50,34 @@ impl Congestion {
             threshold: MOST_WINDOW,
             duplicates: 0,
             recovering: false,
+            slow: false,
             recover: 0,
+            again: 0,
             field: 0,
+            sent: 0,
+        }
+    }
+
+    /// Where nothing is under way and no text was sent for longer than RTO, cwnd falls to the restart window (RFC 5681, 4.1). Times are in
+    /// microseconds.
+    #[tactic(auto, unfolding(crate::specs::Congestion::rested))]
+    pub fn rest(&mut self, tcb: &Tcb, now: u64, rto: u64)
+        requires most { rto ≤ longest_timeout }
+        requires time { now ≤ last_time }
+        ensures { self.new ≡ rested now rto tcb.now self.old }
+    {
+        if flight(tcb) == 0 && self.sent.saturating_add(rto) < now {
+            self.window = self.window.min(first_window(tcb.mss()));
+        }
+    }
+
+    /// Whether text was sent is noted.
+    #[tactic(auto, unfolding(crate::specs::Congestion::noted))]
+    pub fn note(&mut self, tcb: &Tcb, before: Mark, now: u64, again: bool)
+        ensures { self.new ≡ noted now again before tcb.now self.old }
+    {
+        if again || is_sending(tcb, before) {
+            self.sent = now;
         }
     }
 
@@ -91,7 +126,7 @@ impl Congestion {
     {
         !self.recovering
             && !self.is_at_recover(tcb)
-            && u64::from(self.duplicates) + 1 >= tolerance(tcb)
+            && u64::from(self.duplicates) + 1 >= tolerance(tcb, self.within(tcb))
     }
 
     /// Whether nothing was acknowledged beyond the last recovery (RFC 6582, 3.2).
@@ -99,6 +134,41 @@ impl Congestion {
         ensures { result ≡ is_at_recover tcb.now self.now }
     {
         tcb.snd_una() == self.recover
+    }
+
+    /// FlightSize without what limited transmit sent.
+    fn within(&self, tcb: &Tcb) -> u32
+        ensures { result ≡ within tcb.now self.now }
+    {
+        flight(tcb).min(self.window)
+    }
+
+    /// Whether slow start brings all again that was under way when the timer fired.
+    pub fn is_slow(&self) -> bool
+        ensures { result ≡ is_slow self.now }
+    {
+        self.recovering && self.slow
+    }
+
+    /// Up to which offset from SND.UNA what was under way may go again, where the peer's window has so many bytes.
+    #[tactic(auto, unfolding(crate::specs::Congestion::again_up_to))]
+    pub fn again_up_to(&self, tcb: &Tcb, window: u32) -> u32
+        ensures is { result ≡ again_up_to window tcb.now self.now }
+        ensures sent { self.now.again < result → result ≤ in_flight tcb.now }
+    {
+        let all = self.under_way(tcb);
+        let most = window.min(self.window);
+        if all <= most {
+            return self.again.max(all);
+        }
+        let mss = u32::from(tcb.mss());
+        self.again + most.saturating_sub(self.again) / mss * mss
+    }
+
+    fn under_way(&self, tcb: &Tcb) -> u32
+        ensures { result ≡ under_way tcb.now self.now }
+    {
+        tcb.in_flight().min(seq_dist(tcb.snd_una(), self.recover))
     }
 
     /// The segment as the block is to see it.
@@ -118,8 +188,15 @@ impl Congestion {
         if seg.flags & SYN != 0 || seg.wnd == 0 {
             return seg.wnd;
         }
-        let most = self.window >> u32::from(tcb.snd_shift());
-        u32::from(seg.wnd).min(most).max(1) as u16
+        let most = self.usable(tcb) >> u64::from(tcb.snd_shift());
+        u64::from(seg.wnd).min(most).max(1) as u16
+    }
+
+    /// How much may be under way: one segment more for each of the first two duplicates (RFC 3042).
+    fn usable(&self, tcb: &Tcb) -> u64
+        ensures is { result ≡ usable tcb.now self.now }
+    {
+        u64::from(self.window) + u64::from(self.duplicates.min(2)) * u64::from(tcb.mss())
     }
 
     /// The retransmission timer of the block has fired.
@@ -128,10 +205,13 @@ impl Congestion {
         ensures { self.new ≡ timed_out tcb.now self.old }
     {
         self.window = u32::from(tcb.mss());
-        self.threshold = halved(tcb);
+        self.threshold = halved(tcb, flight(tcb));
         self.duplicates = 0;
         self.recovering = true;
+        self.slow = true;
         self.recover = tcb.snd_nxt();
+        self.again = first_segment(tcb);
+        self.sent = tcb.clock();
     }
 
     /// A router dropped what was too long for the path (RFC 1191, 6.4).
@@ -146,6 +226,7 @@ impl Congestion {
         self.window = mss;
         self.duplicates = 0;
         self.recovering = true;
+        self.slow = false;
         self.recover = tcb.snd_nxt();
     }
 
@@ -163,15 +244,27 @@ impl Congestion {
 
     /// New bytes are acknowledged.
     fn acknowledge(&mut self, tcb: &Tcb, seg: &Seg)
-        ensures { self.new ≡ (if self.old.recovering then recovers (dist tcb.now.una seg.now.ack) seg.now tcb.now self.old
-            else grown (dist tcb.now.una seg.now.ack) tcb.now self.old) }
+        ensures { self.new ≡ acknowledges (dist tcb.now.una seg.now.ack) seg.now tcb.now self.old }
     {
         let count = seq_dist(tcb.snd_una(), seg.ack);
-        if self.recovering {
+        if self.is_slow() {
+            self.go_slowly(tcb, seg, count);
+        } else if self.recovering {
             self.recover(tcb, seg, count);
         } else {
             self.grow(tcb, count);
         }
+    }
+
+    #[tactic(auto, unfolding(crate::specs::Congestion::slowly, crate::specs::Congestion::grown))]
+    fn go_slowly(&mut self, tcb: &Tcb, seg: &Seg, count: u32)
+        ensures { self.new ≡ slowly count seg.now tcb.now self.old }
+    {
+        let ends = self.reaches(seg.ack);
+        self.grow(tcb, count);
+        self.recovering = !ends;
+        self.slow = !ends;
+        self.again = self.again.saturating_sub(count);
     }
 
     #[tactic(auto, unfolding(crate::specs::Congestion::recovers))]
@@ -216,12 +309,15 @@ impl Congestion {
     {
         let mss = u32::from(tcb.mss());
         if self.recovering {
-            self.window = sum(self.window, mss);
+            if !self.slow {
+                self.window = sum(self.window, mss);
+            }
         } else if self.begins_recovery(tcb) {
-            self.threshold = halved(tcb);
+            self.threshold = halved(tcb, self.within(tcb));
             self.window = sum(self.threshold, 3 * mss);
             self.duplicates = 0;
             self.recovering = true;
+            self.slow = false;
             self.recover = tcb.snd_nxt();
         } else if !self.is_at_recover(tcb) {
             self.duplicates += 1;
@@ -247,7 +343,7 @@ impl Congestion {
 
 /// Whether new bytes are acknowledged.
 #[tactic(auto, unfolding(crate::specs::Congestion::is_fresh))]
-fn is_fresh(tcb: &Tcb, seg: &Seg) -> bool
+pub(crate) fn is_fresh(tcb: &Tcb, seg: &Seg) -> bool
     ensures { result ≡ is_fresh seg.now tcb.now }
 {
     let count = seq_dist(tcb.snd_una(), seg.ack);
@@ -267,19 +363,26 @@ pub(crate) fn flight(tcb: &Tcb) -> u32
     seq_dist(tcb.snd_una(), tcb.snd_nxt())
 }
 
-/// How many segments these are.
-fn segments(tcb: &Tcb) -> u64
-    ensures is { result ≡ segments tcb.now }
+/// How many segments so many bytes are.
+fn segments(tcb: &Tcb, count: u32) -> u64
+    ensures is { result ≡ segments count tcb.now }
     ensures some { 1 ≤ result }
     ensures most { result ≤ 4294967296 }
 {
-    u64::from(flight(tcb).saturating_sub(1)) / u64::from(tcb.mss()) + 1
+    u64::from(count.saturating_sub(1)) / u64::from(tcb.mss()) + 1
 }
 
-fn halved(tcb: &Tcb) -> u32
-    ensures { result ≡ halved tcb.now }
+fn halved(tcb: &Tcb, count: u32) -> u32
+    ensures { result ≡ halved count tcb.now }
 {
-    (flight(tcb) / 2).max(2 * u32::from(tcb.mss()))
+    (count / 2).max(2 * u32::from(tcb.mss()))
+}
+
+/// How many bytes of what is under way the timer has sent again.
+fn first_segment(tcb: &Tcb) -> u32
+    ensures { result ≡ first_segment tcb.now }
+{
+    u32::from(tcb.mss()).min(tcb.in_flight().min(tcb.snd_wnd().max(1)))
 }
 
 /// cwnd at first, by the most text of a segment.
@@ -290,11 +393,11 @@ fn first_window(mss: u16) -> u32
     (10 * mss).min((2 * mss).max(FIRST_WINDOW))
 }
 
-/// How many duplicate acknowledgements tell a loss.
-fn tolerance(tcb: &Tcb) -> u64
-    ensures { result ≡ tolerance tcb.now }
+/// How many duplicate acknowledgements tell a loss, where so many bytes are under way.
+fn tolerance(tcb: &Tcb, bytes: u32) -> u64
+    ensures { result ≡ tolerance bytes tcb.now }
 {
-    let count = segments(tcb);
+    let count = segments(tcb, bytes);
     if 1 < count && count < 4 {
         count - 1
     } else {

@@ -1,13 +1,13 @@
 //! One connection: its block, and what the server keeps beside it.
 
-ghost use Rattle.std.specs.Prelude.{false, ◌≡◌, ◌==◌, ◌&&◌, ◌++◌, ◌≤◌, IfOk, None, OnErr, OnOk, Some, if◌then◌else◌};
+ghost use Rattle.std.specs.Prelude.{false, ◌≡◌, ◌==◌, ◌&&◌, ◌++◌, ◌-◌, ◌<◌, ◌≤◌, IfOk, None, OnErr, OnOk, Some, if◌then◌else◌};
 ghost use Rattle.live_server.specs.Acts.{after, allowed, challenged, closed, emptied, has_room, is_allowed, is_half_open, is_idle, is_outside, is_over, is_probing, is_waited_for, judged, meets};
-ghost use Rattle.live_server.specs.Acts.{new_conn, oldest_ack, provokes, pruned, reached, receives, renewed, resent, sent_by, taken, takes, ticked, waited_for};
-ghost use Rattle.live_server.specs.Acts.{read_nxt};
+ghost use Rattle.live_server.specs.Acts.{gone_back, new_conn, oldest_ack, provokes, pruned, reached, read_nxt, receives, renewed, repaired, resent, sent_by, taken, takes, ticked, waited_for};
+ghost use Rattle.live_server.specs.Congestion.{resends, segments};
 ghost use Rattle.live_server.specs.Facts.{facts_of};
 ghost use Rattle.live_server.specs.Leaving.{is_given_up};
 ghost use Rattle.live_server.specs.Written.{HasSent};
-ghost use Rattle.tcb_machine.specs.BlockState.{rcv_nxt, rcv_wnd};
+ghost use Rattle.tcb_machine.specs.BlockState.{in_flight, rcv_nxt, rcv_wnd};
 ghost use Rattle.tcb_machine.specs.States.{is_consumed, is_listen};
 ghost use Rattle.tcb_machine.specs.TcpStep.{is_time_wait};
 ghost use Rattle.tcb_machine.specs.Room.{HasRoom};
@@ -16,7 +16,7 @@ ghost use Rattle.tcb_machine.specs.Limits.{last_time, longest_timeout};
 ghost use Rattle.echo_services.specs.Serving.{followed};
 
 use crate::acting::{Datagram, announced};
-use crate::congestion::{Congestion, flight, is_open};
+use crate::congestion::{Congestion, flight, is_fresh, is_open};
 use crate::facts::Facts;
 use crate::measures::Measures;
 use crate::service::LiveService;
@@ -203,7 +203,9 @@ impl Conn {
         requires room { HasRoom self.old.tcb }
         ensures { OnOk result (self.new ≡ taken now iss seg.now text.now self.old) }
     {
+        self.congestion.rest(&self.tcb, now, self.timing.timeout());
         let again = self.congestion.calls_again(&self.tcb, seg);
+        let fresh = is_fresh(&self.tcb, seg);
         self.congestion.ease(&self.tcb, seg);
         let seen = self.congestion.seen(&self.tcb, seg);
         let before = Mark::of(&self.tcb);
@@ -222,8 +224,30 @@ impl Conn {
         self.timing.follow(&self.tcb, before, now, again);
         retime(&mut self.tcb, before, self.timing.timeout());
         renew(&mut self.tcb, before.una, seg.wnd);
-        resend(&mut self.tcb, alloc, again)?;
+        self.congestion.note(&self.tcb, before, now, again);
         self.heard = now;
+        self.repair(alloc, seg.wnd, fresh, again)
+    }
+
+    /// What was under way goes again: behind a timeout as slow start lets, where more of it is acknowledged. Elsewhere the first segment does,
+    /// or none. After an error nothing more is promised.
+    #[tactic(auto, unfolding(crate::specs::Acts::repaired))]
+    fn repair(
+        &mut self,
+        alloc: Global,
+        field: u16,
+        fresh: bool,
+        again: bool,
+    ) -> Result<(), AllocError>
+        ensures { OnOk result (self.new ≡ repaired field fresh again self.old) }
+    {
+        if !(fresh && self.congestion.is_slow()) {
+            return resend(&mut self.tcb, alloc, again);
+        }
+        let window = u32::from(field) << u32::from(self.tcb.snd_shift());
+        let to = self.congestion.again_up_to(&self.tcb, window);
+        go_back(&mut self.tcb, alloc, self.congestion.again, to)?;
+        self.congestion.again = to;
         Ok(())
     }
 
@@ -490,6 +514,35 @@ pub(crate) fn read_nxt(tcb: &Tcb) -> u32
     } else {
         seq_dist(unread, tcb.rcv_nxt())
     }
+}
+
+/// What was under way goes again, from an offset from SND.UNA to another one, or the first of it, where no whole segment may go.
+#[tactic(auto, unfolding(crate::specs::Acts::gone_back))]
+fn go_back(tcb: &mut Tcb, alloc: Global, from: u32, to: u32) -> Result<(), AllocError>
+    requires { from < to → to ≤ in_flight tcb.old }
+    ensures { OnOk result (tcb.new ≡ gone_back from to tcb.old) }
+{
+    if !matches!(tcb.state(), State::Listen) && from < to {
+        resend_between(tcb, alloc, from, to)
+    } else {
+        resend(tcb, alloc, to == 0)
+    }
+}
+
+/// So it goes segment by segment.
+fn resend_between(tcb: &mut Tcb, alloc: Global, from: u32, to: u32) -> Result<(), AllocError>
+    requires open { is_listen tcb.old.state ≡ false }
+    requires some { from < to }
+    requires sent { to ≤ in_flight tcb.old }
+    ensures { OnOk result (tcb.new ≡ resends (segments (to - from) tcb.old) from to tcb.old) }
+{
+    let mss = u32::from(tcb.mss());
+    let count = (to - from - 1) / mss + 1;
+    for piece in 0..count {
+        let at = from + piece * mss;
+        tcb.resend_at(alloc, at, mss.min(to - at))?;
+    }
+    Ok(())
 }
 
 /// Whether a block takes a segment at this time.

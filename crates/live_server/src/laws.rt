@@ -7,7 +7,8 @@ ghost use Rattle.live_server.specs.Frames.{PiecesJoin};
 ghost use Rattle.live_server.specs.Isolation.{AnswersItsEnds, OthersStay, OwnConnActs, OwnEntryGivesWay, SegmentKeepsTable, TimeKeepsTable, TimeLeaves, TooLongIsApart, ReportIsHarmless, UrgentIsItsOwn};
 ghost use Rattle.live_server.specs.Promises.{ChallengesAreApart, FirstIsWide, OneGivesWay, OneIsShed, PlaceIsFreed, OutputIsBounded, SegmentKeepsFew, SegmentKeepsWide, ShedIsFair, ShownIsKept};
 ghost use Rattle.live_server.specs.Promises.{NewIsShort, SegmentKeepsShort, ShownIsNarrow, TextIsBounded, TextIsCounted, TimeCountsAnew, TimeKeepsFew};
-ghost use Rattle.live_server.specs.Promises.{HeededIsShort, PathIsBounded, PlacedStaysShort, RestartIsWide, BeginsBeyondRecover, UnsentIsIgnored};
+ghost use Rattle.live_server.specs.Promises.{AgainIsWithin, HeededIsShort, PathIsBounded, PlacedStaysShort, RestartIsWide, BeginsBeyondRecover, UnsentIsIgnored};
+ghost use Rattle.live_server.specs.Promises.{SilenceIsNarrow, SlowStartIsSlow, TimeoutIsNarrow};
 ghost use Rattle.live_server.specs.Promises.{TickKeepsOrder, TightHoldsOrder, TimeKeepsShort, TimeoutIsWide};
 ghost use Rattle.live_server.specs.Promises.{SegmentRaisesNone, TimeRaisesNone, UnflaggedSaysNothing, UrgentAdvances};
 
@@ -95,13 +96,22 @@ pub fn one_leaves_for_others()
 {}
 
 /// The threshold of congestion control is two segments at least, and a block is shown no window that is wider than the congestion window,
-/// but for one unit of its scale.
+/// with a segment for each of the first two duplicates, but for one unit of its scale. Behind silence the congestion window is the first one at most.
 pub fn congestion_is_bounded()
     ensures first { FirstIsWide }
     ensures segment { SegmentKeepsWide }
     ensures timeout { TimeoutIsWide }
     ensures restart { RestartIsWide }
     ensures shown { ShownIsNarrow }
+    ensures silence { SilenceIsNarrow }
+{}
+
+/// Behind a timeout the congestion window is one segment at most. Each acknowledgement of new bytes raises it by one at most, up to that of all
+/// that was under way, and no other segment raises it. What goes again then lies within it and the peer's window (RFC 5681, 3.1).
+pub fn slow_start_is_slow()
+    ensures timeout { TimeoutIsNarrow }
+    ensures segment { SlowStartIsSlow }
+    ensures again { AgainIsWithin }
 {}
 
 /// Duplicates of what a recovery sent twice begin no other one: SND.UNA has to be beyond what the last one had to reach (RFC 6582, 3.2).
@@ -122,7 +132,7 @@ pub fn only_the_host_drains()
 {}
 
 /// What a block has under way behind output is at most what it had, or what its window holds, and one for our FIN; and the window that it is
-/// shown is no wider than the congestion window, but for one unit of its scale.
+/// shown is no wider than the congestion window, with a segment for each of the first two duplicates, but for one unit of its scale.
 pub fn the_window_bounds_what_is_under_way()
     ensures output { OutputIsBounded }
     ensures shown { ShownIsKept }

@@ -229,7 +229,7 @@ fn is_reached(tcb: &Tcb, sample: Sample) -> bool
     seq_dist(sample.edge, tcb.snd_una()) < 1 << 31
 }
 
-fn is_sending(tcb: &Tcb, before: Mark) -> bool
+pub(crate) fn is_sending(tcb: &Tcb, before: Mark) -> bool
     ensures { result ≡ is_sending before tcb.now }
 {
     matches!(before.state, State::Listen) || tcb.snd_nxt() != before.nxt
