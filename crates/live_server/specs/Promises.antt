@@ -26,6 +26,7 @@ use Rattle.live_server.specs.declared.congestion.Congestion.{Congestion}
 use Rattle.live_server.specs.declared.conn.Conn.{Conn}
 use Rattle.live_server.specs.declared.conn.Judged.{Judged}
 use Rattle.live_server.specs.declared.conn.Judged.TheVariants.{Challenged, Late, Taken, Unanswered}
+use Rattle.live_server.specs.declared.marking.Marking.{Marking}
 use Rattle.live_server.specs.declared.measures.Measures.{Measures}
 use Rattle.live_server.specs.declared.service.LiveService.{LiveService}
 
@@ -182,7 +183,7 @@ pub record IsShort (c : Conn) : Type 0 where
   pub agreed : is_over c ≡ false → c.tcb.agreed.mss ≤ max least_mss c.most
 
 abbrev pub NewIsShort : Type 0
-NewIsShort = (service : LiveService) (most now : ℕ) → IsShort (new_conn service most now)
+NewIsShort = (service : LiveService) (most : ℕ) (marking : Marking) (now : ℕ) → IsShort (new_conn service most marking now)
 
 -- a segment keeps that, whose MSS was limited as the server does, and so does the time
 abbrev pub SegmentKeepsShort : Type 0

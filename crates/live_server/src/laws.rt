@@ -5,6 +5,7 @@ ghost use Rattle.live_server.specs.DaytimeText.{date_of, daytime_text};
 ghost use Rattle.live_server.specs.Draining.{EachCloses, HostDrains, NoneOpens, TimeKeepsDrain};
 ghost use Rattle.live_server.specs.Frames.{PiecesJoin};
 ghost use Rattle.live_server.specs.Isolation.{AnswersItsEnds, OthersStay, OwnConnActs, OwnEntryGivesWay, SegmentKeepsTable, TimeKeepsTable, TimeLeaves, TooLongIsApart, ReportIsHarmless};
+ghost use Rattle.live_server.specs.Marking.{MarkedIsRead, MarksAHeader};
 ghost use Rattle.live_server.specs.Promises.{ChallengesAreApart, FirstIsWide, OneGivesWay, OneIsShed, PlaceIsFreed, OutputIsBounded, SegmentKeepsFew, SegmentKeepsWide, ShedIsFair, ShownIsKept};
 ghost use Rattle.live_server.specs.Promises.{NewIsShort, SegmentKeepsShort, ShownIsNarrow, TextIsBounded, TextIsCounted, TimeCountsAnew, TimeKeepsFew};
 ghost use Rattle.live_server.specs.Promises.{HeededIsShort, PathIsBounded, PlacedStaysShort, RestartIsWide, BeginsBeyondRecover, UnsentIsIgnored};
@@ -153,4 +154,11 @@ pub fn paths_shorten_segments()
 /// leaves, and only where its SYN,ACK is under way (RFC 9293, 3.9.2.2).
 pub fn no_report_ends_an_open_connection()
     ensures { ReportIsHarmless }
+{}
+
+/// Who reads a marked segment, with its sums verified, reads what was there, and TTL and DSCP as they were set. The header of any other datagram that
+/// is marked has its sum, and what stands behind it stays.
+pub fn what_is_marked_is_read()
+    ensures segment { MarkedIsRead }
+    ensures header { MarksAHeader }
 {}
