@@ -14,6 +14,13 @@ use Rattle.segment_codec.specs.SentIsRead.{Fits, seg_sent, text_in}
 use Rattle.segment_codec.specs.declared.packet.Reply.{Reply}
 use Rattle.segment_codec.proofs.SentIsReadLemmas.{reads_again}
 use Rattle.segment_codec.proofs.SumLemmas.{header_sums, length-tcp_with, sum_completes}
+use Rattle.segment_codec.specs.declared.packet.Seg.{Seg}
+use Rattle.live_server.specs.Acts.{after, allowed, bared, challenged, emptied, is_allowed, judged, reached, taken}
+use Rattle.live_server.specs.PathMtu.{is_heeded, path_told, shortened}
+use Rattle.live_server.specs.Promises.{Coming, MarkingStays, PathKeepsMarking, segment, time}
+use Rattle.live_server.specs.declared.conn.Conn.{Conn}
+use Rattle.live_server.specs.declared.conn.Judged.{Judged}
+use Rattle.live_server.specs.declared.conn.Judged.TheVariants.{Challenged, Late, Taken, Unanswered}
 use Rattle.live_server.specs.Marking.{IsMarked, IsReadMarked, MarkedIsRead, MarksAHeader, blank, hops, is_plain, marked_bytes, traffic, with_own_sum, with_sum}
 use Rattle.live_server.specs.declared.marking.Marking.{Marking}
 
@@ -213,3 +220,35 @@ module _ (m : Marking) (t : Tuple) (r : Reply) (fits : Fits t r) where
 
 pub marked_is_read : MarkedIsRead
 marked_is_read = read_marked
+
+-- ---- it stays
+chosen_marking : (b : Bool) (x y c : Conn) → x.marking ≡ c.marking → y.marking ≡ c.marking → (cond b x y).marking ≡ c.marking
+chosen_marking true x y c first second = first
+chosen_marking false x y c first second = second
+
+taken_marking : (now iss : ℕ) (s : Seg) (text : List ℕ) (c : Conn) → (taken now iss s text c).marking ≡ c.marking
+unfolding taken
+taken_marking now iss s text c = refl
+
+allowed_marking : (now iss : ℕ) (s : Seg) (c : Conn) → (allowed now iss s c).marking ≡ c.marking
+unfolding allowed
+allowed_marking now iss s c =
+    chosen_marking (is_allowed s c.tcb) (taken now iss (bared s c.tcb) [] c) c c (taken_marking now iss (bared s c.tcb) [] c) refl
+
+after_marking : (j : Judged) (now iss : ℕ) (s : Seg) (text : List ℕ) (c : Conn) → (after j now iss s text c).marking ≡ c.marking
+unfolding after challenged
+after_marking Taken now iss s text c = taken_marking now iss s text c
+after_marking Challenged now iss s text c = allowed_marking now iss s c
+after_marking Unanswered now iss s text c = allowed_marking now iss s c
+after_marking Late now iss s text c = refl
+
+pub marking_stays : MarkingStays
+unfolding emptied
+marking_stays (segment now iss s text) c =
+    let here = emptied (reached now c) in
+    after_marking (judged now s text here) now iss s text here
+marking_stays (time measures now) c = refl
+
+pub path_keeps_marking : PathKeepsMarking
+unfolding path_told shortened
+path_keeps_marking seq most c = chosen_marking (is_heeded seq most c) (shortened most c) c c refl refl

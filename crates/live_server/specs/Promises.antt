@@ -211,3 +211,11 @@ PathIsBounded = (seq mtu : ℕ) (c : Conn)
 -- and where no segment of this number is under way, nothing changes
 abbrev pub UnsentIsIgnored : Type 0
 UnsentIsIgnored = (seq mtu : ℕ) (c : Conn) → flight c.tcb ≤ dist c.tcb.una seq → path_told seq (text_in_mtu mtu) c ≡ c
+
+-- ---- what datagrams are marked with
+-- a connection keeps the marking that it began with: whatever comes to it, and whatever a router says of it
+abbrev pub MarkingStays : Type 0
+MarkingStays = (x : Coming) (c : Conn) → (came x c).marking ≡ c.marking
+
+abbrev pub PathKeepsMarking : Type 0
+PathKeepsMarking = (seq most : ℕ) (c : Conn) → (path_told seq most c).marking ≡ c.marking

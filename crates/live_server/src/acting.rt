@@ -68,7 +68,10 @@ pub(crate) fn announced(
         text,
         ..*reply
     };
-    encoded(alloc, tuple, &reply, marking)
+    Ok(Datagram {
+        at: reply.at,
+        bytes: marked(alloc, encode(alloc, tuple, &reply)?, marking)?,
+    })
 }
 
 /// The sequence number that a segment gets.

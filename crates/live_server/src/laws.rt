@@ -9,6 +9,7 @@ ghost use Rattle.live_server.specs.Marking.{MarkedIsRead, MarksAHeader};
 ghost use Rattle.live_server.specs.Promises.{ChallengesAreApart, FirstIsWide, OneGivesWay, OneIsShed, PlaceIsFreed, OutputIsBounded, SegmentKeepsFew, SegmentKeepsWide, ShedIsFair, ShownIsKept};
 ghost use Rattle.live_server.specs.Promises.{NewIsShort, SegmentKeepsShort, ShownIsNarrow, TextIsBounded, TextIsCounted, TimeCountsAnew, TimeKeepsFew};
 ghost use Rattle.live_server.specs.Promises.{HeededIsShort, PathIsBounded, PlacedStaysShort, RestartIsWide, BeginsBeyondRecover, UnsentIsIgnored};
+ghost use Rattle.live_server.specs.Promises.{MarkingStays, PathKeepsMarking};
 ghost use Rattle.live_server.specs.Promises.{TickKeepsOrder, TightHoldsOrder, TimeKeepsShort, TimeoutIsWide};
 
 /// Each connection stands once in the table, and there are no more than there are places.
@@ -161,4 +162,10 @@ pub fn no_report_ends_an_open_connection()
 pub fn what_is_marked_is_read()
     ensures segment { MarkedIsRead }
     ensures header { MarksAHeader }
+{}
+
+/// A connection keeps the marking that it began with.
+pub fn a_marking_stays()
+    ensures comes { MarkingStays }
+    ensures path { PathKeepsMarking }
 {}
