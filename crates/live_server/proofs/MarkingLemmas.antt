@@ -1,5 +1,5 @@
 -- What is marked is read.
-use Rattle.std.proofs.Common.{◌≡◌, ◌==◌, ℕ, zero, suc, ◌+◌, ◌-◌, ◌*◌, ◌/◌, ◌%◌, ◌<◌, ◌≤◌, Bool, true, false, cond, ◌&&◌, ◌||◌, eqb, ltb, List, [], ◌∷◌, ◌++◌, length, take, drop, get_or, Option, None, Some, refl, sym, ap, subst, ◌∙◌, arith, set}
+use Rattle.std.proofs.Common.{◌≡◌, ℕ, zero, suc, ◌+◌, ◌-◌, ◌*◌, ◌<◌, ◌≤◌, Bool, true, false, cond, ◌||◌, eqb, ltb, List, [], ◌∷◌, length, take, drop, get_or, Option, None, Some, refl, sym, ap, ◌∙◌, arith, set}
 use Rattle.std.proofs.lemmas.Bool.Decides.{nat_tests}
 use Rattle.std.proofs.lemmas.List.{drop-drop, take_all}
 use Rattle.sq_base.specs.InternetSum.{reduced, word_sum}
@@ -10,18 +10,18 @@ use Rattle.segment_codec.specs.declared.options.Options.{Options}
 use Rattle.segment_codec.specs.Packet.{datagram, ip_place, packet_in, segment_of, sums_hold, tcp_packet}
 use Rattle.segment_codec.specs.Places.{long, word}
 use Rattle.segment_codec.specs.SegmentBytes.{segment_bytes, tcp_sum, tcp_with}
-use Rattle.segment_codec.specs.SentIsRead.{Fits, seg_sent, text_in}
+use Rattle.segment_codec.specs.SentIsRead.{Fits}
 use Rattle.segment_codec.specs.declared.packet.Reply.{Reply}
 use Rattle.segment_codec.proofs.SentIsReadLemmas.{reads_again}
 use Rattle.segment_codec.proofs.SumLemmas.{header_sums, length-tcp_with, sum_completes}
 use Rattle.segment_codec.specs.declared.packet.Seg.{Seg}
 use Rattle.live_server.specs.Acts.{after, allowed, bared, challenged, emptied, is_allowed, judged, reached, taken}
 use Rattle.live_server.specs.PathMtu.{is_heeded, path_told, shortened}
-use Rattle.live_server.specs.Promises.{Coming, MarkingStays, PathKeepsMarking, segment, time}
+use Rattle.live_server.specs.Promises.{MarkingStays, PathKeepsMarking, segment, time}
 use Rattle.live_server.specs.declared.conn.Conn.{Conn}
 use Rattle.live_server.specs.declared.conn.Judged.{Judged}
 use Rattle.live_server.specs.declared.conn.Judged.TheVariants.{Challenged, Late, Taken, Unanswered}
-use Rattle.live_server.specs.Marking.{IsMarked, IsReadMarked, MarkedIsRead, MarksAHeader, blank, hops, is_plain, marked_bytes, traffic, with_own_sum, with_sum}
+use Rattle.live_server.specs.Marking.{IsReadMarked, MarkedIsRead, MarksAHeader, blank, hops, is_plain, marked_bytes, traffic, with_own_sum, with_sum}
 use Rattle.live_server.specs.declared.marking.Marking.{Marking}
 
 -- what holds of a list whose first elements stand one by one

@@ -1,5 +1,5 @@
 -- A router's message that a segment didn't arrive ends no open connection.
-use Rattle.std.proofs.Common.{◌≡◌, ℕ, ◌<◌, ◌⊎◌, length, inl, inr, Bool, true, false, cond, not, Option, None, Some, IfSome, refl, sym, ap, subst, ◌∙◌, arith, true≢false}
+use Rattle.std.proofs.Common.{◌≡◌, ℕ, ◌<◌, length, inl, inr, Bool, true, false, cond, not, Option, None, Some, IfSome, refl, sym, ap, subst, ◌∙◌, arith, true≢false}
 use Rattle.std.specs.Map.{lookup}
 use Rattle.std.specs.Option.{option_map_or}
 use Rattle.std.proofs.lemmas.Option.{same_Some}
@@ -16,7 +16,7 @@ use Rattle.live_server.specs.Unreached.{is_under_way, reported}
 use Rattle.live_server.specs.declared.conn.Conn.{Conn}
 use Rattle.live_server.specs.declared.unreached.Reported.{Reported}
 use Rattle.live_server.specs.declared.unreached.Reported.TheVariants.{HalfOpen, Open, Stray}
-use Rattle.live_server.proofs.LawLemmas.{chosen, placed_at}
+use Rattle.live_server.proofs.LawLemmas.{chosen}
 use Rattle.live_server.proofs.PlaceLemmas.{conn_looked}
 use Rattle.live_server.proofs.TableLemmas.{distinct_without, first_at, length_without, look_without, same, within_at}
 

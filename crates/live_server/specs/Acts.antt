@@ -35,7 +35,6 @@ use Rattle.live_server.specs.declared.marking.Marking.{Marking}
 use Rattle.live_server.specs.declared.measures.Measures.{Measures}
 use Rattle.live_server.specs.declared.service.LiveService.{LiveService}
 use Rattle.live_server.specs.declared.service.LiveService.TheVariants.{Discard}
-use Rattle.live_server.specs.declared.timing.Timing.{Timing}
 
 -- a connection that nothing is known of, with its service, the most text that a segment may have on its path, and what its datagrams are marked
 -- with; it has no place yet, so no number

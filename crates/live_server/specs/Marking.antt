@@ -1,5 +1,5 @@
 -- What is set in the header of each datagram that is sent: TTL (RFC 791, 3.1) and DSCP (RFC 2474, 3), as RFC 9293, 3.9.1 asks for.
-use Rattle.std.specs.Prelude.{◌≡◌, ℕ, ◌+◌, ◌-◌, ◌*◌, ◌/◌, ◌%◌, ◌<◌, ◌≤◌, ◌==◌, ◌&&◌, ◌||◌, nat_lt, Bool, true, false, List, length, take, drop, slice_index, slice_set, if◌then◌else◌}
+use Rattle.std.specs.Prelude.{◌≡◌, ℕ, ◌-◌, ◌*◌, ◌/◌, ◌%◌, ◌≤◌, ◌==◌, ◌&&◌, ◌||◌, nat_lt, Bool, true, false, List, length, take, drop, slice_index, slice_set, if◌then◌else◌}
 use Rattle.sq_base.specs.InternetSum.{reduced, word_sum}
 use Rattle.sq_base.specs.declared.kinds.Link.TheVariants.{RawIp}
 use Rattle.sq_base.specs.declared.kinds.Tuple.{Tuple}
