@@ -54,7 +54,7 @@ setting_by marking address broadcast places idle bytes segment ports pings host 
 abbrev pub setting_of : List Text → Option Setting
 setting_of (address ∷ broadcast ∷ places ∷ idle ∷ bytes ∷ segment ∷ rest) =
     option_and_then (λ m. setting_by m.0 (address_of address) (address_of broadcast) (numeral places) (numeral idle) (numeral bytes) (length_of segment)
-        (ports_in m.1) (pings_in m.1) (host_in m.1)) (marking_in rest)
+    (ports_in m.1) (pings_in m.1) (host_in m.1)) (marking_in rest)
 setting_of [] = None
 setting_of (_ ∷ []) = None
 setting_of (_ ∷ _ ∷ []) = None
