@@ -48,6 +48,8 @@ typedef struct sqtcp_setting {
     uint16_t discard;           /* RFC 863 */
     uint16_t daytime;           /* RFC 867 */
     uint16_t chargen;           /* the character generator (RFC 864) */
+    uint8_t ttl;                /* TTL of each datagram that is sent; 0: 64 */
+    uint8_t dscp;               /* its DSCP (RFC 2474), 0 to 63; modulo 64 beyond that */
 } sqtcp_setting;
 
 /* Opens a server, with no connection: DONE, NO_MEMORY, or REFUSED where it is open; that one stays as it is. */

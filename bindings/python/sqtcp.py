@@ -29,7 +29,8 @@ class Setting(ctypes.Structure):
     """struct sqtcp_setting."""
     _fields_ = [*((name, ctypes.c_uint64) for name in ("idle", "bytes", "places")), ("secret", ctypes.c_uint8 * 16),
                 *((name, ctypes.c_uint32) for name in ("address", "broadcast", "pings", "host")),
-                *((name, ctypes.c_uint16) for name in ("segment", "echo", "discard", "daytime", "chargen"))]
+                *((name, ctypes.c_uint16) for name in ("segment", "echo", "discard", "daytime", "chargen")),
+                *((name, ctypes.c_uint8) for name in ("ttl", "dscp"))]
 
 
 HANDLE = ctypes.POINTER(Handle)
@@ -68,12 +69,13 @@ def number(address):
 
 class Server:
     """A server that is open. `places` is how many connections it keeps, `held` how many bytes of text they may hold together, `idle` how long
-    (microseconds) a silent one stays where the table is full; `echo`, `discard`, `daytime` and `chargen` are ports, 0 for not had. The secret
-    behind its initial sequence numbers (RFC 6528) is drawn where none is given."""
+    (microseconds) a silent one stays where the table is full; `echo`, `discard`, `daytime` and `chargen` are ports, 0 for not had. `ttl`
+    and `dscp`, 0 to 63, stand in each datagram that is sent. The secret behind its initial sequence numbers (RFC 6528) is drawn where none is given."""
 
     def __init__(self, *, address, broadcast, host=0, places=1000, held=64 << 20, idle=60_000_000, pings=1000, segment=1460,
-                 echo=0, discard=0, daytime=0, chargen=0, secret=None, path=None):
-        numbers = dict(idle=idle, bytes=held, places=places, pings=pings, segment=segment, echo=echo, discard=discard, daytime=daytime, chargen=chargen)
+                 echo=0, discard=0, daytime=0, chargen=0, ttl=64, dscp=0, secret=None, path=None):
+        numbers = dict(idle=idle, bytes=held, places=places, pings=pings, segment=segment, echo=echo, discard=discard, daytime=daytime, chargen=chargen,
+                       ttl=ttl, dscp=dscp)
         for name, kind in Setting._fields_:
             if name in numbers and not 0 <= numbers[name] < 1 << 8 * ctypes.sizeof(kind):
                 raise ValueError(f"{name} is out of range: {numbers[name]}")

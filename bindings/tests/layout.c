@@ -23,4 +23,6 @@ int main(void) {
     FIELD(sqtcp_setting, discard);
     FIELD(sqtcp_setting, daytime);
     FIELD(sqtcp_setting, chargen);
+    FIELD(sqtcp_setting, ttl);
+    FIELD(sqtcp_setting, dscp);
 }

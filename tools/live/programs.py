@@ -8,8 +8,8 @@ from pathlib import Path
 TOP = Path(__file__).resolve().parents[2]
 # The user and the group "nobody" of Debian.
 NOBODY = 65534
-# What a server has without a word for it: its services and their ports, and how many echo requests it answers from tick to tick.
-USUAL_PORTS, PINGS = {"echo": 7, "discard": 9}, 1000
+# What a server has without a word for it: its services and their ports, how many echo requests it answers from tick to tick, TTL and DSCP.
+USUAL_PORTS, PINGS, TTL, DSCP = {"echo": 7, "discard": 9}, 1000, 64, 0
 PR_SET_PDEATHSIG, PR_SET_NO_NEW_PRIVS, PR_CAP_AMBIENT, PR_CAP_AMBIENT_CLEAR_ALL = 1, 38, 47, 4
 
 
@@ -19,10 +19,12 @@ def built(name):
     return str(unproved if unproved.exists() and not proved.exists() else proved)
 
 
-def setting(server, broadcast, places=1024, idle=7200, memory=256 << 20, mtu=1500, ports=None, pings=PINGS, host=None):
+def setting(server, broadcast, places=1024, idle=7200, memory=256 << 20, mtu=1500, ports=None, pings=PINGS, host=None, ttl=TTL, dscp=DSCP):
     """The words that say what a server is started with. Both headers of a segment take 40 bytes. `ports` has the port of each service by
-    its name; without it there are echo at 7 and discard at 9. `host` is whose orders count. No word says what is usual, unless another one stands behind it."""
+    its name; without it there are echo at 7 and discard at 9. `host` is whose orders count. No word says what is usual, unless another one stands behind it;
+    TTL and DSCP have words of their own."""
     words = [server.packed.hex(), broadcast.packed.hex(), str(places), str(idle), str(memory), str(mtu - 40)]
+    words += ["--ttl", str(ttl)] * (ttl != TTL) + ["--dscp", str(dscp)] * (dscp != DSCP)
     more = [",".join(f"{name}={port}" for name, port in (ports or USUAL_PORTS).items()), str(pings), host and host.packed.hex()]
     usual = [ports is None, pings == PINGS, host is None]
     while more and usual.pop():

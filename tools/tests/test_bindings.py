@@ -151,9 +151,14 @@ def rows():
 def server_of(sqtcp, words):
     """A server by the words of sqlive frames."""
     secret, address, broadcast, places, idle, held, most, *rest = words[2:]
+    marking = {}
+    while rest and rest[0] in ("--ttl", "--dscp"):
+        marking[rest[0][2:]] = int(rest[1])
+        rest = rest[2:]
     ports = {"echo": 7, "discard": 9} if not rest else {name: int(port) for name, _, port in (word.partition("=") for word in rest[0].split(","))}
     return sqtcp.Server(secret=bytes.fromhex(secret), address=int(address, 16), broadcast=int(broadcast, 16), places=int(places), idle=int(idle) * 1_000_000,
-                        held=int(held), segment=int(most), pings=int(rest[1]) if rest[1:] else 1000, host=int(rest[2], 16) if rest[2:] else 0, **ports)
+                        held=int(held), segment=int(most), pings=int(rest[1]) if rest[1:] else 1000, host=int(rest[2], 16) if rest[2:] else 0,
+                        **ports, **marking)
 
 
 def frames_in(data):

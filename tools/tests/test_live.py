@@ -722,7 +722,7 @@ class Launcher(unittest.TestCase):
 
     def test_bounds_are_told(self):
         for words, said in (("--memory 4096", "from 1 to 4095"), ("--idle 4294967296", "from 1 to 4294967295"), ("--places 4294967296", "from 1 to 4294967295"),
-                            ("--mtu 1501", "from 576 to 1500"), ("--pings 4294967296", "from 0 to 4294967295"), ("--rings 2 --squeues 64", "from 1 to 63"), ("--rings 2 --budget 0", "from 1 to 4294967295"),
+                            ("--mtu 1501", "from 576 to 1500"), ("--ttl 0", "from 1 to 255"), ("--ttl 256", "from 1 to 255"), ("--dscp 64", "from 0 to 63"), ("--pings 4294967296", "from 0 to 4294967295"), ("--rings 2 --squeues 64", "from 1 to 63"), ("--rings 2 --budget 0", "from 1 to 4294967295"),
                             ("--rings 2 --places 65537", "at most 65536 with --rings"), ("--rings 2 --conns", "--conns is no more"), ("--device a/b", "no device's name"),
                             ("--device tun%d", "no device's name"), ("--device sixteen.letters0", "no device's name"),
                             ("--capture /nonexistent/run.pcap", "--capture '/nonexistent/run.pcap': nothing can be written there"),

@@ -159,10 +159,10 @@ takes_right t c sv new table = by (has_place sv) refl
     by false e = record { shows = refl; setting = refl; table = record { once = table.once; bounded = table.bounded } }
 
 -- a reset goes out
-pub refuses_right : (now : ℕ) (s : Seg) (sv : ServerOf) → IsTable sv → IsRight sv (sends (refused now s) ∷ []) (refuses now s sv)
+pub refuses_right : (now : ℕ) (s : Seg) (sv : ServerOf) → IsTable sv → IsRight sv (sends (refused sv.setting.marking now s) ∷ []) (refuses now s sv)
 refuses_right now s sv table =
     let refusing : ServerOf = (refuses now s sv).server in
-    record { shows = sent_shows sv refusing (refused now s) refl; setting = refl; table = quiet_right sv refusing refl refl table }
+    record { shows = sent_shows sv refusing (refused sv.setting.marking now s) refl; setting = refl; table = quiet_right sv refusing refl refl table }
 
 module _ (now : ℕ) (s : Seg) (text : List ℕ) (sv : ServerOf) (table : IsTable sv) where
   abbrev pub new_one : Conn
@@ -181,7 +181,7 @@ module _ (now : ℕ) (s : Seg) (text : List ℕ) (sv : ServerOf) (table : IsTabl
   pub opens_right : IsNew (tuple_of s) sv.conns → IsRight sv (way_opens now s text sv) (opening now s text sv)
   unfolding way_opens opening
   opens_right new =
-      chosen_right sv.draining sv (sends (refused now s) ∷ []) (way_admits now s text sv) (refuses now s sv) (admits now s text sv)
+      chosen_right sv.draining sv (sends (refused sv.setting.marking now s) ∷ []) (way_admits now s text sv) (refuses now s sv) (admits now s text sv)
       (refuses_right now s sv table) (admits_right new)
 
   pub comes_right : IsRight sv (way_comes now s text sv) (comes now s text sv)
@@ -262,10 +262,10 @@ addressed_right now pointer s text sv table =
     let astray : ServerOf = record sv { counts = record sv.counts { astray = more 1 sv.counts.astray } } in
     let s1 : Seg = limited sv.setting.segment s in
     let elsewhere : Outcome = refuses now s sv in
-    chosen_right (not (is_for_us sv.setting s)) sv [] (cond (is_served_at sv.setting.ports s.dst_port) (way_urgent now pointer s1 text sv) (sends (refused now s) ∷ []))
+    chosen_right (not (is_for_us sv.setting s)) sv [] (cond (is_served_at sv.setting.ports s.dst_port) (way_urgent now pointer s1 text sv) (sends (refused sv.setting.marking now s) ∷ []))
     (sends_nothing astray) (cond (is_served_at sv.setting.ports s.dst_port) (on_urgent now pointer s1 text sv) elsewhere)
     (quiet_counts sv astray refl refl table)
-    (chosen_right (is_served_at sv.setting.ports s.dst_port) sv (way_urgent now pointer s1 text sv) (sends (refused now s) ∷ []) (on_urgent now pointer s1 text sv) elsewhere
+    (chosen_right (is_served_at sv.setting.ports s.dst_port) sv (way_urgent now pointer s1 text sv) (sends (refused sv.setting.marking now s) ∷ []) (on_urgent now pointer s1 text sv) elsewhere
     (urgent_right now pointer s1 text sv table)
     (refuses_right now s sv table))
 

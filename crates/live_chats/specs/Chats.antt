@@ -39,7 +39,7 @@ becoming t c = record { conn = kept_as c; sent = sent_by t c }
 
 -- a connection that a segment finds where there is none
 abbrev pub fresh : Setting → ℕ → Seg → Conn
-fresh g now s = new_conn (service_at g now s.dst_port) g.segment now
+fresh g now s = new_conn (service_at g now s.dst_port) g.segment g.marking now
 
 -- what a segment makes of what stands at two ends: where nothing does, it is answered as a new connection answers it
 abbrev pub segment_said : Setting → Tuple → ℕ → ℕ → Seg → List ℕ → Option Conn → Said

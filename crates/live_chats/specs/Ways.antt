@@ -54,7 +54,7 @@ way_admits now s text sv =
     if is_over c then sends (sent_by (tuple_of s) c) ∷ [] else way_yielding sv.waiting sv ++ way_takes (tuple_of s) c (makes_place sv)
 
 unfoldable pub way_opens : ℕ → Seg → List ℕ → ServerOf → List Step
-way_opens now s text sv = if sv.draining then sends (refused now s) ∷ [] else way_admits now s text sv
+way_opens now s text sv = if sv.draining then sends (refused sv.setting.marking now s) ∷ [] else way_admits now s text sv
 
 abbrev pub way_goes_on : ℕ → Seg → List ℕ → ServerOf → List Step
 way_goes_on now s text sv = tells (tuple_of s) (segment now (number_for sv.secret now s) s text) ∷ []
@@ -83,7 +83,7 @@ unfoldable pub way_addressed : ℕ → Option ℕ → Seg → List ℕ → Serve
 way_addressed now pointer s text sv =
     if not (is_for_us sv.setting s) then []
     else if is_served_at sv.setting.ports s.dst_port then way_urgent now pointer (limited sv.setting.segment s) text sv
-    else sends (refused now s) ∷ []
+    else sends (refused sv.setting.marking now s) ∷ []
 
 unfoldable pub way_too_long : TooLong → ServerOf → List Step
 way_too_long x sv =

@@ -1,4 +1,5 @@
 pub mod PortLemmas
+pub mod WordLemmas
 pub mod ReadLemmas
 pub mod FrontLemmas
 pub mod PutLemmas

@@ -1,4 +1,5 @@
 pub mod PortWords
+pub mod MarkingWords
 pub mod Words
 pub mod Rounds
 pub mod Faults

@@ -7,9 +7,11 @@ use Rattle.hex.specs.Hex.{decode_sized}
 use Rattle.shell.specs.Numbers.{numeral}
 use Rattle.shell.specs.Table.{Text}
 use Rattle.live_server.specs.declared.initial.Secret.{Secret}
+use Rattle.live_server.specs.declared.marking.Marking.{Marking}
 use Rattle.live_server.specs.declared.ports.Ports.{Ports}
 use Rattle.live_server.specs.declared.setting.Setting.{Setting}
 use Rattle.sq_base.specs.declared.kinds.Addr.{Addr}
+use Rattle.live_run.specs.MarkingWords.{marking_in}
 use Rattle.live_run.specs.PortWords.{ports_in}
 use Rattle.live_run.specs.declared.words.Medium.TheVariants.{Device, Frames}
 use Rattle.live_run.specs.declared.words.ServerWords.{ServerWords}
@@ -42,16 +44,17 @@ host_in (_ ∷ _ ∷ []) = Some None
 host_in (_ ∷ _ ∷ word ∷ []) = option_map (λ a. Some a) (address_of word)
 host_in (_ ∷ _ ∷ _ ∷ _ ∷ _) = None
 
--- ADDRESS BROADCAST PLACES IDLE BYTES SEGMENT [PORTS [PINGS [HOST]]], IDLE in seconds
-abbrev pub setting_by : Option Addr → Option Addr → Option ℕ → Option ℕ → Option ℕ → Option ℕ → Option Ports → Option ℕ → Option (Option Addr) → Option Setting
-setting_by address broadcast places idle bytes segment ports pings host =
+-- ADDRESS BROADCAST PLACES IDLE BYTES SEGMENT [--ttl N] [--dscp N] [PORTS [PINGS [HOST]]], IDLE in seconds
+abbrev pub setting_by : Marking → Option Addr → Option Addr → Option ℕ → Option ℕ → Option ℕ → Option ℕ → Option Ports → Option ℕ → Option (Option Addr) → Option Setting
+setting_by marking address broadcast places idle bytes segment ports pings host =
     option_and_then (λ a. option_and_then (λ b. option_and_then (λ p. option_and_then (λ i. option_and_then (λ h. option_and_then (λ t. option_and_then (λ s. option_and_then (λ e. option_map (λ o.
-    record { address = a; broadcast = b; places = p; idle = i * 1000000; bytes = h; segment = t; pings = e; ports = s; site = None; host = o })
+    record { address = a; broadcast = b; places = p; idle = i * 1000000; bytes = h; segment = t; marking = marking; pings = e; ports = s; site = None; host = o })
     host) pings) ports) segment) bytes) idle) places) broadcast) address
 
 abbrev pub setting_of : List Text → Option Setting
 setting_of (address ∷ broadcast ∷ places ∷ idle ∷ bytes ∷ segment ∷ rest) =
-    setting_by (address_of address) (address_of broadcast) (numeral places) (numeral idle) (numeral bytes) (length_of segment) (ports_in rest) (pings_in rest) (host_in rest)
+    option_and_then (λ m. setting_by m.0 (address_of address) (address_of broadcast) (numeral places) (numeral idle) (numeral bytes) (length_of segment)
+    (ports_in m.1) (pings_in m.1) (host_in m.1)) (marking_in rest)
 setting_of [] = None
 setting_of (_ ∷ []) = None
 setting_of (_ ∷ _ ∷ []) = None

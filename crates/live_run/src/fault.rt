@@ -6,7 +6,7 @@ ghost use Rattle.live_run.specs.Faults.{code_of};
 const USAGE: &str = concat!(
     "usage: sqlive [--pages FILE] [--rings N --squeues N --mode process|nodrain|fill --budget N] ",
     "frames SECRET SETTING | device SETTING, ",
-    "where SETTING is ADDRESS BROADCAST PLACES IDLE BYTES SEGMENT [PORTS [PINGS [HOST]]], ",
+    "where SETTING is ADDRESS BROADCAST PLACES IDLE BYTES SEGMENT [--ttl N] [--dscp N] [PORTS [PINGS [HOST]]], ",
     "and behind it with --rings an IN and an OUT for each ring",
 );
 

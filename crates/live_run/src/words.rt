@@ -5,6 +5,7 @@ ghost use Rattle.std.specs.String.{string_bytes};
 ghost use Rattle.shell.specs.Numbers.{numeral};
 ghost use Rattle.live_run.specs.Words.{address_of, asked, device_asked, frames_asked, host_in, length_of, pings_in, secret_of, setting_of};
 
+use crate::marking_words::marking_in;
 use crate::port_words::ports_in;
 use byteorder::{BigEndian, ByteOrder};
 use hex::decode_to_slice;
@@ -65,13 +66,14 @@ fn device_asked(words: &[String]) -> Option<ServerWords>
 
 /// The address that is answered for and the network's broadcast address, each as eight hexadecimal digits, how many connections are
 /// kept, after how many seconds one is idle, how many bytes all may hold, and how many a segment that is sent; then, where they are given,
-/// the ports of the services, how many echo requests are answered from tick to tick, and the address of the host whose orders are obeyed.
+/// TTL and DSCP, the ports of the services, how many echo requests are answered from tick to tick, and the address of the host whose orders are obeyed.
 fn setting_of(words: &[String]) -> Option<Setting>
     ensures { result ≡ setting_of (map (λ s. string_bytes s) words.now) }
 {
     let [address, broadcast, places, idle, bytes, segment, rest @ ..] = words else {
         return None;
     };
+    let (marking, rest) = marking_in(rest)?;
     Some(Setting {
         address: address_of(address.as_str())?,
         broadcast: address_of(broadcast.as_str())?,
@@ -79,6 +81,7 @@ fn setting_of(words: &[String]) -> Option<Setting>
         idle: u64::from(numeral(idle.as_str())?) * 1_000_000,
         bytes: u64::from(numeral(bytes.as_str())?),
         segment: length_of(segment.as_str())?,
+        marking,
         ports: ports_in(rest)?,
         pings: pings_in(rest)?,
         site: None,

@@ -60,7 +60,7 @@ unfolding admits takes_place
 admitted_drains now s text sv = by (is_over fresh)
   where
     fresh : Conn
-    fresh = served now s text sv (new_conn (service_at sv.setting now s.dst_port) sv.setting.segment now)
+    fresh = served now s text sv (new_conn (service_at sv.setting now s.dst_port) sv.setting.segment sv.setting.marking now)
 
     placed : (b : Bool) → (cond b (takes_free (tuple_of s) fresh (makes_place sv)) (turns_away (tuple_of s) (makes_place sv))).server.draining ≡ sv.draining
     placed true = yielding_drains sv.waiting sv

@@ -166,7 +166,7 @@ module _ (now : ℕ) (s : Seg) (text : List ℕ) (sv : ServerOf) (table : IsTabl
   ends = tuple_of s
 
   abbrev fresh : Conn
-  fresh = served now s text sv (new_conn (service_at sv.setting now s.dst_port) sv.setting.segment now)
+  fresh = served now s text sv (new_conn (service_at sv.setting now s.dst_port) sv.setting.segment sv.setting.marking now)
 
   abbrev room_made : ServerOf
   room_made = yielding sv.waiting sv

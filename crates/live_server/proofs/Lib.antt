@@ -13,6 +13,7 @@ pub mod ServerLemmas
 pub mod LawLemmas
 pub mod AgeLemmas
 pub mod SentLemmas
+pub mod MarkingLemmas
 pub mod CrowdingLemmas
 pub mod ShedLemmas
 pub mod TickLemmas

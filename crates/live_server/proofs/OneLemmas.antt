@@ -98,7 +98,7 @@ module _ (now : ℕ) (s : Seg) (text : List ℕ) (sv : ServerOf) (table : IsTabl
   own = tuple_of s
 
   abbrev fresh : Conn
-  fresh = served now s text sv (new_conn (service_at sv.setting now s.dst_port) sv.setting.segment now)
+  fresh = served now s text sv (new_conn (service_at sv.setting now s.dst_port) sv.setting.segment sv.setting.marking now)
 
   admitted_but : Rattle.live_server.specs.Table.IsNew own sv.conns → (b : Bool) → is_over fresh ≡ b → OthersBut own sv (admits now s text sv).server
   admitted_but new true e = (own, λ q apart _. ap (λ (o : Outcome). conn_of q o.server) (admitted_by now s text sv table true e))
@@ -215,7 +215,7 @@ unfolding admits
 admitted_few now s text sv few = by (is_over fresh_conn)
   where
     fresh_conn : Conn
-    fresh_conn = served now s text sv (new_conn (service_at sv.setting now s.dst_port) sv.setting.segment now)
+    fresh_conn = served now s text sv (new_conn (service_at sv.setting now s.dst_port) sv.setting.segment sv.setting.marking now)
 
     by : (b : Bool) → FewWait (cond b (sends_of (tuple_of s) fresh_conn sv) (takes_place (tuple_of s) fresh_conn (makes_place sv))).server
     by true = few

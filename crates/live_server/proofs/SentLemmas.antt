@@ -14,21 +14,22 @@ use Rattle.live_server.specs.Serving.{Outcome, ServerOf, admits, becomes, comes,
 use Rattle.live_server.specs.Table.{place_of}
 use Rattle.live_server.specs.declared.acting.Datagram.{Datagram}
 use Rattle.live_server.specs.declared.conn.Conn.{Conn}
+use Rattle.live_server.specs.declared.marking.Marking.{Marking}
 
 module _ (t : Tuple) where
   abbrev pub IsOfEnds : Datagram → Type 0
-  IsOfEnds d = (r : Reply) × (d ≡ datagram_of t r)
+  IsOfEnds d = (m : Marking) × (r : Reply) × (d ≡ datagram_of m t r)
 
   abbrev pub AreOfEnds : List Datagram → Type 0
   AreOfEnds ds = AllByRecursion IsOfEnds ds
 
-  pub of_replies : (most : ℕ) (una : Option ℕ) (rs : List Reply) → AreOfEnds (map (λ r. datagram_of t (announcing most (numbered_as una r))) rs)
-  of_replies most una [] = tt
-  of_replies most una (r ∷ rs) = ((announcing most (numbered_as una r), refl), of_replies most una rs)
+  pub of_replies : (m : Marking) (most : ℕ) (una : Option ℕ) (rs : List Reply) → AreOfEnds (map (λ r. datagram_of m t (announcing most (numbered_as una r))) rs)
+  of_replies m most una [] = tt
+  of_replies m most una (r ∷ rs) = ((m, announcing most (numbered_as una r), refl), of_replies m most una rs)
 
-  of_refusal : (r : Option Reply) → AreOfEnds (option_map_or (λ (x : Reply). datagram_of t x ∷ []) r [])
-  of_refusal None = tt
-  of_refusal (Some r) = ((r, refl), tt)
+  of_refusal : (m : Marking) (r : Option Reply) → AreOfEnds (option_map_or (λ (x : Reply). datagram_of m t x ∷ []) r [])
+  of_refusal m None = tt
+  of_refusal m (Some r) = ((m, r, refl), tt)
 
   both : (xs ys : List Datagram) → AreOfEnds xs → AreOfEnds ys → AreOfEnds (xs ++ ys)
   both [] ys here there = there
@@ -44,20 +45,20 @@ module _ (t : Tuple) where
 
   timed : (now : ℕ) (sv : ServerOf) → AreOfEnds (time_to now t sv).sent
   unfolding time_to becomes
-  timed now sv = by_place (place_of t sv.conns) _ _ (λ i. of_replies _ _ _) tt
+  timed now sv = by_place (place_of t sv.conns) _ _ (λ i. of_replies _ _ _ _) tt
 
   taken : (c : Conn) (sv : ServerOf) → AreOfEnds (takes_place t c sv).sent
   unfolding takes_place
-  taken c sv = chosen (has_place sv) (takes_free t c sv) (turns_away t sv) (of_replies _ _ _) tt
+  taken c sv = chosen (has_place sv) (takes_free t c sv) (turns_away t sv) (of_replies _ _ _ _) tt
 
 came : (now : ℕ) (s : Seg) (text : List ℕ) (sv : ServerOf) → AreOfEnds (tuple_of s) (comes now s text sv).sent
 unfolding comes goes_on becomes opens admits
 came now s text sv =
     let t = tuple_of s in
-    let c = served now s text sv (new_conn (service_at sv.setting now s.dst_port) sv.setting.segment now) in
-    by_place t (place_of t sv.conns) _ _ (λ i. of_replies t _ _ _)
-    (chosen t sv.draining (refuses now s sv) (admits now s text sv) (of_refusal t (refusal_of now s))
-    (chosen t (is_over c) (sends_of t c sv) (takes_place t c (makes_place sv)) (of_replies t c.most (waited_for c) c.tcb.replies) (taken t c (makes_place sv))))
+    let c = served now s text sv (new_conn (service_at sv.setting now s.dst_port) sv.setting.segment sv.setting.marking now) in
+    by_place t (place_of t sv.conns) _ _ (λ i. of_replies t _ _ _ _)
+    (chosen t sv.draining (refuses now s sv) (admits now s text sv) (of_refusal t sv.setting.marking (refusal_of now s))
+    (chosen t (is_over c) (sends_of t c sv) (takes_place t c (makes_place sv)) (of_replies t c.marking c.most (waited_for c) c.tcb.replies) (taken t c (makes_place sv))))
 
 same_ends : (s : Seg) (b : Bool) → tuple_of (cond b s (without_text s)) ≡ tuple_of s
 same_ends s true = refl

@@ -543,7 +543,7 @@ limited_mss most s = omega arith
 
 pub new_short : NewIsShort
 unfolding new_block
-new_short service most now = record { sent = tt; agreed = λ e. absurd (false≢true (sym e)) }
+new_short service most marking now = record { sent = tt; agreed = λ e. absurd (false≢true (sym e)) }
 
 pub segment_short : SegmentKeepsShort
 segment_short now iss s text c valid h =

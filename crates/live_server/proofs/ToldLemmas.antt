@@ -25,7 +25,7 @@ use Rattle.live_server.proofs.PieceLemmas.{pieces_join_proof}
 
 module _ (now : ℕ) (s : Seg) (text : List ℕ) (sv : ServerOf) where
   abbrev pub new_one : Conn
-  new_one = served now s text sv (new_conn (service_at sv.setting now s.dst_port) sv.setting.segment now)
+  new_one = served now s text sv (new_conn (service_at sv.setting now s.dst_port) sv.setting.segment sv.setting.marking now)
 
   pub admitting_told : (b : Bool) → is_over new_one ≡ b → told_admitting now s text sv ≡ cond b [] (told_taking (tuple_of s) (makes_place sv))
   unfolding told_admitting

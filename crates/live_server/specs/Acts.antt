@@ -22,6 +22,7 @@ use Rattle.tcb_machine.specs.declared.kinds.Call.TheVariants.{Close}
 use Rattle.live_server.specs.Congestion.{again_up_to, calls_again, eased, is_fresh, is_open, is_slow, no_congestion, noted, resends, rested, seen, segments, timed_out}
 use Rattle.live_server.specs.declared.congestion.Congestion.{Congestion}
 use Rattle.live_server.specs.Limits.{challenge_interval}
+use Rattle.live_server.specs.Marking.{marked_bytes}
 use Rattle.live_server.specs.Services.{after_pump, pump_of}
 use Rattle.live_server.specs.Timing.{clocked, expired, mark_of, no_timing, retimed, timeout}
 use Rattle.live_server.specs.declared.acting.Datagram.{Datagram}
@@ -30,17 +31,20 @@ use Rattle.live_server.specs.declared.conn.Judged.{Judged}
 use Rattle.live_server.specs.declared.conn.Judged.TheVariants.{Challenged, Late, Taken, Unanswered}
 use Rattle.live_server.specs.declared.conn.Met.{Met}
 use Rattle.live_server.specs.declared.conn.Met.TheVariants.{Gone, Judged as judges}
+use Rattle.live_server.specs.declared.marking.Marking.{Marking}
 use Rattle.live_server.specs.declared.measures.Measures.{Measures}
 use Rattle.live_server.specs.declared.service.LiveService.{LiveService}
 use Rattle.live_server.specs.declared.service.LiveService.TheVariants.{Discard}
 
--- a connection that nothing is known of, with its service, and the most text that a segment may have on its path; it has no place yet, so no number
-abbrev pub new_conn : LiveService → ℕ → ℕ → Conn
-new_conn service most now = record {
+-- a connection that nothing is known of, with its service, the most text that a segment may have on its path, and what its datagrams are marked
+-- with; it has no place yet, so no number
+abbrev pub new_conn : LiveService → ℕ → Marking → ℕ → Conn
+new_conn service most marking now = record {
   tcb = new_block;
   number = 0;
   service = service;
   most = most;
+  marking = marking;
   since = now;
   heard = now;
   quiet_until = 0;
@@ -51,7 +55,7 @@ new_conn service most now = record {
 
 -- what stands for one where there is none
 abbrev pub no_conn : Conn
-no_conn = new_conn Discard 0 0
+no_conn = new_conn Discard 0 (record { ttl = 0; dscp = 0 }) 0
 
 -- a connection is over, or half open
 abbrev pub is_over : Conn → Bool
@@ -221,8 +225,8 @@ ticked m now c =
 unfoldable pub emptied : Conn → Conn
 emptied c = record c { tcb = record c.tcb { replies = [] } }
 
-abbrev pub datagram_of : Tuple → Reply → Datagram
-datagram_of t r = record { at = r.at; bytes = segment_bytes t r }
+abbrev pub datagram_of : Marking → Tuple → Reply → Datagram
+datagram_of m t r = record { at = r.at; bytes = marked_bytes m (segment_bytes t r) }
 
 -- whether an MSS is announced that is longer than this
 abbrev pub is_longer : ℕ → Option ℕ → Bool
@@ -245,7 +249,7 @@ numbered_as (Some una) r = if (r.flags == ack) && (length r.text == 0) then reco
 
 -- the datagrams of what it sent
 abbrev pub sent_by : Tuple → Conn → List Datagram
-sent_by t c = map (λ r. datagram_of t (announcing c.most (numbered_as (waited_for c) r))) c.tcb.replies
+sent_by t c = map (λ r. datagram_of c.marking t (announcing c.most (numbered_as (waited_for c) r))) c.tcb.replies
 
 -- what becomes of a connection and a segment that comes to it, and what is sent
 pub record Meeting : Type 0 where

@@ -25,6 +25,7 @@ use Rattle.live_server.specs.Unreached.{is_under_way}
 use Rattle.live_server.specs.Urgent.{is_news, urged}
 use Rattle.live_server.specs.declared.acting.Datagram.{Datagram}
 use Rattle.live_server.specs.declared.conn.Conn.{Conn}
+use Rattle.live_server.specs.declared.marking.Marking.{Marking}
 
 -- each connection stands once, and there are no more than there are places
 pub record IsTable (sv : ServerOf) : Type 0 where
@@ -128,7 +129,7 @@ pub record IsApart (x : TooLong) (sv : ServerOf) : Type 0 where
       → conn_of x.ends (on_too_long x sv).server ≡ kept_as (path_told x.seq (text_in_mtu x.mtu) c)
   pub astray : is_to_us sv.setting x.src x.dst ≡ false → on_too_long x sv ≡ passes_over sv
   pub others : (q : Tuple) → tuple_eq x.ends q ≡ false → conn_of q (on_too_long x sv).server ≡ conn_of q sv
-  pub sent : All (λ (d : Datagram). (r : Reply) × (d ≡ datagram_of x.ends r)) (on_too_long x sv).sent
+  pub sent : All (λ (d : Datagram). (m : Marking) × (r : Reply) × (d ≡ datagram_of m x.ends r)) (on_too_long x sv).sent
 
 abbrev pub TooLongIsApart : Type 0
 TooLongIsApart = (x : TooLong) (sv : ServerOf) → IsTable sv → IsApart x sv
@@ -159,4 +160,4 @@ UrgentIsItsOwn = (now pointer : ℕ) (s : Seg) (sv : ServerOf) → IsTable sv �
 -- what is sent for a segment goes to its own ends
 abbrev pub AnswersItsEnds : Type 0
 AnswersItsEnds = (now : ℕ) (s : Seg) (text : List ℕ) (sv : ServerOf)
-    → All (λ (d : Datagram). (r : Reply) × (d ≡ datagram_of (tuple_of s) r)) (on_segment now s text sv).sent
+    → All (λ (d : Datagram). (m : Marking) × (r : Reply) × (d ≡ datagram_of m (tuple_of s) r)) (on_segment now s text sv).sent

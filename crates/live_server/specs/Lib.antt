@@ -1,5 +1,6 @@
 pub mod Unreached
 pub mod Limits
+pub mod Marking
 pub mod Initial
 pub mod Addresses
 pub mod Congestion

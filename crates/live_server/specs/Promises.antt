@@ -27,6 +27,7 @@ use Rattle.live_server.specs.declared.congestion.Congestion.{Congestion}
 use Rattle.live_server.specs.declared.conn.Conn.{Conn}
 use Rattle.live_server.specs.declared.conn.Judged.{Judged}
 use Rattle.live_server.specs.declared.conn.Judged.TheVariants.{Challenged, Late, Taken, Unanswered}
+use Rattle.live_server.specs.declared.marking.Marking.{Marking}
 use Rattle.live_server.specs.declared.measures.Measures.{Measures}
 use Rattle.live_server.specs.declared.service.LiveService.{LiveService}
 
@@ -201,7 +202,7 @@ pub record IsShort (c : Conn) : Type 0 where
   pub agreed : is_over c ≡ false → c.tcb.agreed.mss ≤ max least_mss c.most
 
 abbrev pub NewIsShort : Type 0
-NewIsShort = (service : LiveService) (most now : ℕ) → IsShort (new_conn service most now)
+NewIsShort = (service : LiveService) (most : ℕ) (marking : Marking) (now : ℕ) → IsShort (new_conn service most marking now)
 
 -- a segment keeps that, whose MSS was limited as the server does, and so does the time
 abbrev pub SegmentKeepsShort : Type 0
@@ -250,3 +251,11 @@ TimeRaisesNone = (measures : Measures) (now : ℕ) (c : Conn) → (ticked measur
 -- and without URG the field says nothing (3.1)
 abbrev pub UnflaggedSaysNothing : Type 0
 UnflaggedSaysNothing = (s : Seg) (ip : List ℕ) → has s.flags urg ≡ false → urgent_in s ip ≡ None
+
+-- ---- what datagrams are marked with
+-- a connection keeps the marking that it began with: whatever comes to it, and whatever a router says of it
+abbrev pub MarkingStays : Type 0
+MarkingStays = (x : Coming) (c : Conn) → (came x c).marking ≡ c.marking
+
+abbrev pub PathKeepsMarking : Type 0
+PathKeepsMarking = (seq most : ℕ) (c : Conn) → (path_told seq most c).marking ≡ c.marking

@@ -28,6 +28,7 @@ use Rattle.live_server.specs.Counting.{counting_cause, counting_judged, more}
 use Rattle.live_server.specs.CountsText.{counts_text, named_counts, state_counts}
 use Rattle.live_server.specs.Initial.{number_for}
 use Rattle.live_server.specs.Leaving.{and_turned, without_leaving, without_shed}
+use Rattle.live_server.specs.Marking.{marked_bytes}
 use Rattle.live_server.specs.PathMtu.{shortens, text_in_mtu}
 use Rattle.live_server.specs.Orders.{order_in}
 use Rattle.live_server.specs.Services.{is_served_at, service_at}
@@ -42,6 +43,7 @@ use Rattle.live_server.specs.declared.conn.Met.TheVariants.{Gone, Judged as judg
 use Rattle.live_server.specs.declared.counts.Counts.{Counts}
 use Rattle.live_server.specs.declared.crowding.TurnedAway.{TurnedAway}
 use Rattle.live_server.specs.declared.crowding.TurnedAway.TheVariants.{Nobody}
+use Rattle.live_server.specs.declared.marking.Marking.{Marking}
 use Rattle.live_server.specs.declared.measures.Measures.{Measures}
 use Rattle.live_server.specs.declared.rules.Rules.{Rules}
 use Rattle.live_server.specs.declared.setting.Setting.{Setting}
@@ -164,15 +166,15 @@ sends_of t c sv = record { server = sv; sent = sent_by t c }
 -- a connection takes a place, unless it is over at once
 unfoldable pub admits : ℕ → Seg → List ℕ → ServerOf → Outcome
 admits now s text sv =
-    let c = served now s text sv (new_conn (service_at sv.setting now s.dst_port) sv.setting.segment now) in
+    let c = served now s text sv (new_conn (service_at sv.setting now s.dst_port) sv.setting.segment sv.setting.marking now) in
     if is_over c then sends_of (tuple_of s) c sv else takes_place (tuple_of s) c (makes_place sv)
 
 -- a segment elsewhere is answered by a reset (RFC 9293, 3.10.7.1)
-abbrev pub refused : ℕ → Seg → List Datagram
-refused now s = option_map_or (λ r. datagram_of (tuple_of s) r ∷ []) (refusal_of now s) []
+abbrev pub refused : Marking → ℕ → Seg → List Datagram
+refused m now s = option_map_or (λ r. datagram_of m (tuple_of s) r ∷ []) (refusal_of now s) []
 
 abbrev pub refuses : ℕ → Seg → ServerOf → Outcome
-refuses now s sv = record { server = record sv { counts = record sv.counts { refused = more 1 sv.counts.refused } }; sent = refused now s }
+refuses now s sv = record { server = record sv { counts = record sv.counts { refused = more 1 sv.counts.refused } }; sent = refused sv.setting.marking now s }
 
 -- a segment of a connection that has no place; where the server drains none opens any more
 unfoldable pub opens : ℕ → Seg → List ℕ → ServerOf → Outcome
@@ -257,7 +259,7 @@ addressed now pointer s text sv =
 abbrev pub echoes : ℕ → PingOf → ServerOf → Outcome
 echoes now p sv = record {
   server = record sv { pings = sv.pings + 1; counts = record sv.counts { pinged = more 1 sv.counts.pinged } };
-  sent = record { at = now; bytes = pong_bytes p } ∷ [];
+  sent = record { at = now; bytes = marked_bytes sv.setting.marking (pong_bytes p) } ∷ [];
 }
 
 -- where it is for us, and not many were since the time last came
@@ -319,7 +321,7 @@ back_to u = record { client = u.src; client_port = u.src_port; server = u.dst; s
 abbrev pub tells_counts : ℕ → Udp → ServerOf → Outcome
 tells_counts now u sv = record {
   server = record sv { told = true };
-  sent = record { at = now; bytes = udp_bytes (back_to u) (counts_text (told_counts sv)) } ∷ [];
+  sent = record { at = now; bytes = marked_bytes sv.setting.marking (udp_bytes (back_to u) (counts_text (told_counts sv))) } ∷ [];
 }
 
 -- an order of the host: it drains from now on, whatever comes later; or the host is told the counts, once from one tick to the next. Other texts say

@@ -37,7 +37,7 @@ told_taking t sv = if has_place sv then begins t ∷ [] else []
 -- one begins, unless it is over at once
 unfoldable pub told_admitting : ℕ → Seg → List ℕ → ServerOf → List Told
 told_admitting now s text sv =
-    let c = served now s text sv (new_conn (service_at sv.setting now s.dst_port) sv.setting.segment now) in
+    let c = served now s text sv (new_conn (service_at sv.setting now s.dst_port) sv.setting.segment sv.setting.marking now) in
     if is_over c then [] else told_taking (tuple_of s) (makes_place sv)
 
 -- so it is where a segment finds none, and the server doesn't drain

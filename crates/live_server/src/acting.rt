@@ -5,6 +5,7 @@ ghost use Rattle.tcb_machine.specs.BlockState.{IsOurs};
 ghost use Rattle.segment_codec.specs.SentIsRead.{text_in};
 ghost use Rattle.live_server.specs.Acts.{announcing, datagram_of, is_longer, numbered_as};
 
+use crate::marking::{Marking, marked};
 use segment_codec::{ACK, Options, Reply, Seg, encode};
 use sq_base::{Octets, Tuple};
 use std::alloc::{AllocError, Global};
@@ -16,14 +17,19 @@ pub struct Datagram {
     pub bytes: Octets,
 }
 
-/// The datagram of a segment that is sent.
-pub(crate) fn encoded(alloc: Global, tuple: &Tuple, reply: &Reply) -> Result<Datagram, AllocError>
+/// The datagram of a segment that is sent, marked.
+pub(crate) fn encoded(
+    alloc: Global,
+    tuple: &Tuple,
+    reply: &Reply,
+    marking: Marking,
+) -> Result<Datagram, AllocError>
     requires { IsOurs reply.now }
-    ensures { IfOk result (λ d. d ≡ datagram_of tuple.now reply.now) }
+    ensures { IfOk result (λ d. d ≡ datagram_of marking tuple.now reply.now) }
 {
     Ok(Datagram {
         at: reply.at,
-        bytes: encode(alloc, tuple, reply)?,
+        bytes: marked(alloc, encode(alloc, tuple, reply)?, marking)?,
     })
 }
 
@@ -36,14 +42,15 @@ pub(crate) fn announced(
     reply: &Reply,
     most: u16,
     waited_for: Option<u32>,
+    marking: Marking,
 ) -> Result<Datagram, AllocError>
     requires { IsOurs reply.now }
-    ensures { IfOk result (λ d. d ≡ datagram_of tuple.now (announcing most (numbered_as waited_for reply.now))) }
+    ensures { IfOk result (λ d. d ≡ datagram_of marking tuple.now (announcing most (numbered_as waited_for reply.now))) }
 {
     let seq = numbered_as(reply, waited_for);
     let longer = is_longer(reply.options.mss, most);
     if !longer && seq == reply.seq {
-        return encoded(alloc, tuple, reply);
+        return encoded(alloc, tuple, reply, marking);
     }
     let mss = if longer {
         Some(most)
@@ -63,7 +70,7 @@ pub(crate) fn announced(
     };
     Ok(Datagram {
         at: reply.at,
-        bytes: encode(alloc, tuple, &reply)?,
+        bytes: marked(alloc, encode(alloc, tuple, &reply)?, marking)?,
     })
 }
 

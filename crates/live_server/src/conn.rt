@@ -18,6 +18,7 @@ ghost use Rattle.echo_services.specs.Serving.{followed};
 use crate::acting::{Datagram, announced};
 use crate::congestion::{Congestion, flight, is_fresh, is_open};
 use crate::facts::Facts;
+use crate::marking::Marking;
 use crate::measures::Measures;
 use crate::service::LiveService;
 use crate::timing::{Mark, Timing, retime};
@@ -40,6 +41,8 @@ pub struct Conn {
     pub service: LiveService,
     /// How many bytes of text a segment has at most on the path to its peer: no longer MSS is announced.
     pub most: u16,
+    /// What its datagrams are marked with.
+    pub marking: Marking,
     /// When it was opened.
     pub since: u64,
     /// The how-manyth it is of those that took a place, modulo 2^64.
@@ -77,14 +80,16 @@ pub enum Met {
 }
 
 impl Conn {
-    /// A connection that nothing is known of, with its service, and with the most text that a segment may have on its path.
-    pub fn make(alloc: Global, service: LiveService, most: u16, now: u64) -> Conn
-        ensures { result ≡ new_conn service most now }
+    /// A connection that nothing is known of, with its service, with the most text that a segment may have on its path, and with what its
+    /// datagrams are marked with.
+    pub fn make(alloc: Global, service: LiveService, most: u16, marking: Marking, now: u64) -> Conn
+        ensures { result ≡ new_conn service most marking now }
     {
         Conn {
             tcb: Tcb::make(alloc),
             service,
             most,
+            marking,
             since: now,
             number: 0,
             heard: now,
@@ -334,10 +339,11 @@ impl Conn {
         ensures wrote { OnErr result (HasSent out.old.items out.new.items (sent_by tuple.now self.old)) }
     {
         let most = self.most;
+        let marking = self.marking;
         let waited_for = self.waited_for();
         let replies = self.tcb.take_replies(alloc);
         for reply in &replies {
-            out.push(announced(alloc, tuple, reply, most, waited_for)?)?;
+            out.push(announced(alloc, tuple, reply, most, waited_for, marking)?)?;
         }
         Ok(())
     }

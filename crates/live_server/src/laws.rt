@@ -5,10 +5,12 @@ ghost use Rattle.live_server.specs.DaytimeText.{date_of, daytime_text};
 ghost use Rattle.live_server.specs.Draining.{EachCloses, HostDrains, NoneOpens, TimeKeepsDrain};
 ghost use Rattle.live_server.specs.Frames.{PiecesJoin};
 ghost use Rattle.live_server.specs.Isolation.{AnswersItsEnds, OthersStay, OwnConnActs, OwnEntryGivesWay, SegmentKeepsTable, TimeKeepsTable, TimeLeaves, TooLongIsApart, ReportIsHarmless, UrgentIsItsOwn};
+ghost use Rattle.live_server.specs.Marking.{MarkedIsRead, MarksAHeader};
 ghost use Rattle.live_server.specs.Promises.{ChallengesAreApart, FirstIsWide, OneGivesWay, OneIsShed, PlaceIsFreed, OutputIsBounded, SegmentKeepsFew, SegmentKeepsWide, ShedIsFair, ShownIsKept};
 ghost use Rattle.live_server.specs.Promises.{NewIsShort, SegmentKeepsShort, ShownIsNarrow, TextIsBounded, TextIsCounted, TimeCountsAnew, TimeKeepsFew};
 ghost use Rattle.live_server.specs.Promises.{AgainIsWithin, HeededIsShort, PathIsBounded, PlacedStaysShort, RestartIsWide, BeginsBeyondRecover, UnsentIsIgnored};
 ghost use Rattle.live_server.specs.Promises.{SilenceIsNarrow, SlowStartIsSlow, TimeoutIsNarrow};
+ghost use Rattle.live_server.specs.Promises.{MarkingStays, PathKeepsMarking};
 ghost use Rattle.live_server.specs.Promises.{TickKeepsOrder, TightHoldsOrder, TimeKeepsShort, TimeoutIsWide};
 ghost use Rattle.live_server.specs.Promises.{SegmentRaisesNone, TimeRaisesNone, UnflaggedSaysNothing, UrgentAdvances};
 
@@ -178,4 +180,17 @@ pub fn urgent_pointers_only_advance()
     ensures segment { SegmentRaisesNone }
     ensures time { TimeRaisesNone }
     ensures unflagged { UnflaggedSaysNothing }
+{}
+
+/// Who reads a marked segment, with its sums verified, reads what was there, and TTL and DSCP as they were set. The header of any other datagram that
+/// is marked has its sum, and what stands behind it stays.
+pub fn what_is_marked_is_read()
+    ensures segment { MarkedIsRead }
+    ensures header { MarksAHeader }
+{}
+
+/// A connection keeps the marking that it began with.
+pub fn a_marking_stays()
+    ensures comes { MarkingStays }
+    ensures path { PathKeepsMarking }
 {}

@@ -17,6 +17,7 @@ mod facts;
 mod frames;
 mod initial;
 mod laws;
+mod marking;
 mod measures;
 mod orders;
 mod path_mtu;
@@ -44,6 +45,7 @@ pub use laws::{
     answers_go_to_its_ends, days_have_their_dates, only_these_leave_in_time, others_stay,
     own_connection_acts, own_entry_gives_way, pieces_join, the_table_is_bounded,
 };
+pub use marking::{Marking, USUAL_MARKING};
 pub use measures::Measures;
 pub use ports::{NO_PORTS, PLAIN_PORTS, Ports, service_at};
 pub use rules::{Rules, number_for, without_text};

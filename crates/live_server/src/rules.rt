@@ -27,6 +27,7 @@ use crate::counts::Counts;
 use crate::counts_text::counts_text;
 use crate::crowding::{TurnedAway, shed_place};
 use crate::initial::{Secret, initial_number};
+use crate::marking::{Marking, marked};
 use crate::measures::Measures;
 use crate::orders::{back_to, order_in, order_text};
 use crate::path_mtu::text_in_mtu;
@@ -295,6 +296,7 @@ impl<T: ConnTable> Rules<T> {
     {
         let text = self.counts_text(alloc)?;
         let bytes = encode_udp(alloc, &back_to(order), text.as_bytes())?;
+        let bytes = marked(alloc, bytes, self.setting.marking)?;
         out.push(Datagram { at: now, bytes })?;
         self.told = true;
         Ok(())
@@ -364,7 +366,7 @@ impl<T: ConnTable> Rules<T> {
         ensures wrote { OnErr result (HasSent out.old.items out.new.items (echoes now ping.now (server_of T.conns self.old)).sent) }
         ensures kept { OnErr result (server_of T.conns self.new ≡ server_of T.conns self.old) }
     {
-        let bytes = pong(alloc, ping)?;
+        let bytes = marked(alloc, pong(alloc, ping)?, self.setting.marking)?;
         out.push(Datagram { at: now, bytes })?;
         let most = self.setting.pings;
         prove!(self.pings < most);
@@ -502,7 +504,7 @@ impl<T: ConnTable> Rules<T> {
         ensures wrote { OnErr result (HasSent out.old.items out.new.items (refuses now seg.now (server_of T.conns self.old)).sent) }
     {
         self.counts.refused = self.counts.refused.wrapping_add(1);
-        refuse(alloc, now, seg, out)
+        refuse(alloc, now, seg, self.setting.marking, out)
     }
 
     /// A segment to a service. Where its text would take all past what they may hold, it counts without it.
@@ -653,7 +655,13 @@ impl<T: ConnTable> Rules<T> {
         let tuple = tuple_of(seg);
         let iss = number_for(&self.secret, now, seg, &tuple);
         let service = service_at(&self.setting, now, seg.dst_port)?;
-        let mut conn = Conn::make(alloc, service, self.setting.segment, now);
+        let mut conn = Conn::make(
+            alloc,
+            service,
+            self.setting.segment,
+            self.setting.marking,
+            now,
+        );
         conn.take(alloc, now, iss, seg, text)?;
         if conn.is_over() {
             return conn.send(alloc, &tuple, out);
@@ -776,12 +784,18 @@ pub fn without_text(seg: &Seg) -> Seg
 
 /// A segment to a port that isn't served is answered by a reset.
 #[tactic(auto, using(crate::proofs::WrittenLemmas::nothing_sent))]
-fn refuse(alloc: Global, now: u64, seg: &Seg, out: &mut Vec<Datagram>) -> Result<(), AllocError>
-    ensures sent { OnOk result (out.new.items ≡ out.old.items ++ refused now seg.now) }
-    ensures wrote { OnErr result (HasSent out.old.items out.new.items (refused now seg.now)) }
+fn refuse(
+    alloc: Global,
+    now: u64,
+    seg: &Seg,
+    marking: Marking,
+    out: &mut Vec<Datagram>,
+) -> Result<(), AllocError>
+    ensures sent { OnOk result (out.new.items ≡ out.old.items ++ refused marking now seg.now) }
+    ensures wrote { OnErr result (HasSent out.old.items out.new.items (refused marking now seg.now)) }
 {
     if let Some(reset) = refusal(alloc, now, seg) {
-        out.push(encoded(alloc, &tuple_of(seg), &reset)?)?;
+        out.push(encoded(alloc, &tuple_of(seg), &reset, marking)?)?;
     }
     Ok(())
 }

@@ -2,6 +2,7 @@
 
 ghost use Rattle.std.specs.Prelude.{◌≡◌, IfOk};
 
+use crate::marking::Marking;
 use crate::ports::Ports;
 use crate::site::{Site, share};
 use sq_base::Addr;
@@ -22,6 +23,8 @@ pub struct Setting {
     pub bytes: u64,
     /// How many bytes of text a segment has at most that is sent, or 64 where that is more; no longer MSS is announced.
     pub segment: u16,
+    /// What is set in the header of each datagram that is sent.
+    pub marking: Marking,
     /// How many echo requests are answered from one tick to the next.
     pub pings: u32,
     /// At which ports it has which service.
@@ -44,6 +47,7 @@ impl Setting {
             idle: self.idle,
             bytes: self.bytes,
             segment: self.segment,
+            marking: self.marking,
             pings: self.pings,
             ports: self.ports,
             site: share(&self.site)?,

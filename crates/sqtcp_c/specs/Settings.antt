@@ -1,4 +1,4 @@
--- What a setting of C means: the server's setting. Port 0 is no service, and host 0 is nobody.
+-- What a setting of C means: the server's setting. Port 0 is no service, host 0 is nobody, and TTL 0 is the usual one.
 use Rattle.std.specs.Prelude.{ℕ, ◌==◌, Option, None, Some, if◌then◌else◌}
 use Rattle.sq_base.specs.declared.kinds.Addr.{Addr}
 use Rattle.live_server.specs.declared.setting.Setting.{Setting}
@@ -15,6 +15,7 @@ setting_of s = record {
   idle = s.idle;
   bytes = s.bytes;
   segment = s.segment;
+  marking = record { ttl = s.ttl; dscp = s.dscp };
   pings = s.pings;
   ports = record { echo = s.echo; discard = s.discard; daytime = s.daytime; chargen = s.chargen; web = 0 };
   site = None;

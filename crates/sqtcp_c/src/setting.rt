@@ -3,7 +3,7 @@
 ghost use Rattle.std.specs.Prelude.{◌≡◌};
 ghost use Rattle.sqtcp_c.specs.Settings.{setting_of};
 
-use live_server::{Ports, Secret, Setting};
+use live_server::{Marking, Ports, Secret, Setting};
 use sq_base::Addr;
 
 /// What a server is opened with, in host byte order. Port 0 says that a service isn't had.
@@ -36,6 +36,10 @@ pub struct SqtcpSetting {
     pub daytime: u16,
     /// The port of the character generator (RFC 864).
     pub chargen: u16,
+    /// TTL of each datagram that is sent, or 0 for 64.
+    pub ttl: u8,
+    /// DSCP (RFC 2474) of each: 0 to 63, and modulo 64 beyond that.
+    pub dscp: u8,
 }
 
 impl SqtcpSetting {
@@ -50,6 +54,10 @@ impl SqtcpSetting {
             idle: self.idle,
             bytes: self.bytes,
             segment: self.segment,
+            marking: Marking {
+                ttl: self.ttl,
+                dscp: self.dscp,
+            },
             pings: self.pings,
             ports: Ports {
                 echo: self.echo,

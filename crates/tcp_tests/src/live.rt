@@ -1,6 +1,8 @@
 //! Two clients at a server with one place. The initial sequence numbers are those of an implementation of SHA-256 elsewhere.
 
-use live_server::{Datagram, NO_PORTS, PLAIN_PORTS, Ports, Secret, Server, Setting};
+use live_server::{
+    Datagram, NO_PORTS, PLAIN_PORTS, Ports, Secret, Server, Setting, USUAL_MARKING,
+};
 use segment_codec::{Packet, Seg, decode};
 use sq_base::{Addr, Link};
 use std::alloc::{AllocError, Global};
@@ -17,6 +19,7 @@ const SETTING: Setting = Setting {
     idle: 7_200_000_000,
     bytes: 1 << 28,
     segment: 1460,
+    marking: USUAL_MARKING,
     pings: 1000,
     ports: PLAIN_PORTS,
     site: None,

@@ -17,9 +17,14 @@ use Rattle.live_server.specs.Acts.{datagram_of}
 use Rattle.live_server.specs.Frames.{frame_of}
 use Rattle.live_server.specs.Services.{plain_ports}
 use Rattle.live_server.specs.declared.acting.Datagram.{Datagram}
+use Rattle.live_server.specs.declared.marking.Marking.{Marking}
 use Rattle.live_rings.specs.declared.ending.Ends.{Ends}
 use Rattle.live_rings.specs.declared.ending.EndedRing.{EndedRing}
 use Rattle.live_rings.specs.declared.words.Layout.{Layout}
+
+-- TTL and DSCP as they are where nothing is said of them
+abbrev pub usual : Marking
+usual = record { ttl = 64; dscp = 0 }
 
 -- one squeue; the server is 10.9.0.2
 abbrev pub layout : Layout
@@ -34,6 +39,7 @@ layout = record {
     idle = 7200000000;
     bytes = 268435456;
     segment = 1460;
+    marking = usual;
     pings = 1000;
     ports = plain_ports;
     site = None;
@@ -57,7 +63,7 @@ first = 955759340
 
 -- what the client sends, with right sums: time, control bits, sequence number, acknowledgement number, text
 abbrev pub sent : ℕ → ℕ → ℕ → ℕ → List ℕ → Datagram
-sent at bits seq acked text = datagram_of turned (plain at bits seq acked 4096 text)
+sent at bits seq acked text = datagram_of usual turned (plain at bits seq acked 4096 text)
 
 abbrev pub input : List ℕ
 input =
@@ -75,9 +81,9 @@ syn_ack = record (plain 0 (syn + ack) first 101 65535 []) { options = record { m
 -- what is answered
 abbrev pub answered : List Datagram
 answered =
-    datagram_of ends syn_ack
-    ∷ datagram_of ends (plain 1000 (psh + ack) (first + 1) 106 65535 (codes "hello"))
-    ∷ datagram_of ends (plain 2000 (fin + ack) (first + 6) 107 65535 [])
+    datagram_of usual ends syn_ack
+    ∷ datagram_of usual ends (plain 1000 (psh + ack) (first + 1) 106 65535 (codes "hello"))
+    ∷ datagram_of usual ends (plain 2000 (fin + ack) (first + 6) 107 65535 [])
     ∷ []
 
 abbrev pub output : List ℕ

@@ -46,6 +46,8 @@ mod raw {
         pub discard: u16,
         pub daytime: u16,
         pub chargen: u16,
+        pub ttl: u8,
+        pub dscp: u8,
     }
 
     extern "C" {
@@ -88,6 +90,10 @@ pub struct Setting {
     pub daytime: u16,
     /// The port of the character generator (RFC 864).
     pub chargen: u16,
+    /// TTL of each datagram that is sent; 0 stands for 64.
+    pub ttl: u8,
+    /// Its DSCP (RFC 2474), 0 to 63; modulo 64 beyond that.
+    pub dscp: u8,
 }
 
 impl Setting {
@@ -107,6 +113,8 @@ impl Setting {
             discard: 0,
             daytime: 0,
             chargen: 0,
+            ttl: 64,
+            dscp: 0,
         }
     }
 
@@ -125,6 +133,8 @@ impl Setting {
             discard: self.discard,
             daytime: self.daytime,
             chargen: self.chargen,
+            ttl: self.ttl,
+            dscp: self.dscp,
         }
     }
 }
@@ -247,7 +257,7 @@ mod tests {
         }
         fields!(Handle, "sqtcp", at open);
         lines.push(format!("sqtcp_setting {}", size_of::<Setting>()));
-        fields!(Setting, "sqtcp_setting", idle bytes places secret address broadcast pings host segment echo discard daytime chargen);
+        fields!(Setting, "sqtcp_setting", idle bytes places secret address broadcast pings host segment echo discard daytime chargen ttl dscp);
         if let Ok(file) = std::env::var("SQTCP_LAYOUT") {
             std::fs::write(file, lines.join("\n") + "\n").unwrap();
         }

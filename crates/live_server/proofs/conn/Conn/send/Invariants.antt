@@ -3,4 +3,4 @@ use Rattle.live_server.specs.Acts.{announcing, datagram_of, numbered_as, waited_
 use Rattle.live_server.proofs.conn.Conn.send.Given as goal
 
 abbrev pub invariant-loop-reply : goal.invariant-loop-reply
-invariant-loop-reply l = l.out.items ≡ l.fn.out.items ++ map (λ r. datagram_of l.tuple (announcing l.most (numbered_as (waited_for l.fn.self) r))) (take l.reply-index l.reply-items)
+invariant-loop-reply l = l.out.items ≡ l.fn.out.items ++ map (λ r. datagram_of l.marking l.tuple (announcing l.most (numbered_as (waited_for l.fn.self) r))) (take l.reply-index l.reply-items)
