@@ -76,4 +76,6 @@ impl Arrivals for MadeItems {
         self.given = self.given.and(&arrival);
         arrival
     }
+
+    fn stop(&mut self) {}
 }

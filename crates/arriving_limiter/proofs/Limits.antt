@@ -6,7 +6,7 @@ use Rattle.key_limiter.specs.Limiting.{decided_from, decisions_of, full, level_a
 use Rattle.key_limiter.specs.declared.limiter.Level.{Level}
 use Rattle.squeue_streams.specs.Taking.{Takes}
 use Rattle.squeue_arrivals.specs.Arriving.{IsMadeOf, items_for, keys_of, refused_in}
-use Rattle.squeue_arrivals.specs.Channelling.{received_by}
+use Rattle.squeue_arrivals.specs.Channelling.{is_hung_up, received_by}
 use Rattle.squeue_arrivals.specs.declared.channelled.Channelled.{Channelled}
 use Rattle.squeue_arrivals.specs.declared.served.KeyPart.{KeyPart}
 use Rattle.squeue_answers.specs.Answering.{ByAnswered, IsAnswered, answers_in, items_in}
@@ -51,13 +51,14 @@ IsFresh s = (received_by s.0 ≡ []) × (kept_of s.1 ≡ [])
 module _ {V : Type 0} (w : Limiting) (most : ℕ) where
   abbrev pub WasAnswered : Channelled ℕ V × Kept Bool → AnsweredSource (Channelled ℕ V) (Kept Bool) ℕ Level → Type 0
   WasAnswered =
-      IsAnswered {O = Unit {0}} (λ w level. level ≡ full w.limit) Answers (λ s. tt) received_by (λ s. Unit {0}) kept_of w most
+      IsAnswered {O = Unit {0}} (λ w level. level ≡ full w.limit) Answers (λ s. tt) received_by is_hung_up kept_of w most
 
   limited : (source : Channelled ℕ V × Kept Bool) (left : AnsweredSource (Channelled ℕ V) (Kept Bool) ℕ Level) → IsFresh source → WasAnswered source left → IsLimited w.limit most left
   limited source left fresh was =
       record {
         all = was.all;
         its_requests = was.its_items.gave ∙ ap (λ (l : List (ℕ × ℕ)). l ++ items_in was.all ++ refused_in left.refused) fresh.0;
+        all_came = was.its_items.over;
         its_answers = was.its_answers ∙ ap (λ (l : List Bool). l ++ answers_in was.all) fresh.1;
         by_rule = λ k. ruled k (items_for k was.all) refl;
         few = was.few;

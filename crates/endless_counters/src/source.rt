@@ -135,4 +135,6 @@ impl<W: Clock> Arrivals for Amounts<'_, W> {
         }
         arrival
     }
+
+    fn stop(&mut self) {}
 }

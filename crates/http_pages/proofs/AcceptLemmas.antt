@@ -107,10 +107,10 @@ first_line (b ∷ xs) r e = by_test (is_line_feed b) refl e (λ f. first_line xs
         }
 
 -- a line and its end
-abbrev Ended : List ℕ → Type 0
+abbrev pub Ended : List ℕ → Type 0
 Ended t = (e : LineEnd) × ((ys : List ℕ) → t ++ 10 ∷ ys ≡ without_cr t ++ (print_end e ++ ys))
 
-ended : (t : List ℕ) → Ended t
+pub ended : (t : List ℕ) → Ended t
 unfolding without_cr
 ended t = by_test (get_or t (length t - 1) 0 == carriage_return) refl
   where
@@ -169,7 +169,7 @@ found_any p (b ∷ u) e = by_test (p b) refl e (λ f. found_any p u f)
     by_test true is f go = rw is (omega arith)
     by_test false is f go = let later = go f in rw is (omega (arith, later))
 
-token_is : (t : List ℕ) → is_token t ≡ true → IsToken t
+pub token_is : (t : List ℕ) → is_token t ≡ true → IsToken t
 token_is t e =
     let parts = and_parts _ (list_all is_token_byte t) e in
     (ltb-true 0 (length t) parts.0, AllPass-from_list_all is_token_byte t parts.1)
@@ -282,9 +282,21 @@ head_is es line e fs last is narrow all =
       fields = all;
     }
 
-accept_here : (bytes r line : List ℕ) (fields : List (List ℕ)) → behind_head (from_request_line bytes) ≡ Some r → lines (take (length bytes - length r) bytes) ≡ line ∷ fields
-    → is_request_line line ≡ true → list_all is_field_line fields ≡ true → IsNarrow line → (h : RequestHead) × ReadsRequest bytes h r
-accept_here bytes r line fields end cut is all narrow =
+-- the first line of a head is its first one that isn't empty
+pub record FirstOf (bytes r line : List ℕ) (fields : List (List ℕ)) : Type 0 where
+  pub es : List LineEnd
+  pub t : List ℕ
+  pub ys : List ℕ
+  pub blank : bytes ≡ print_blank es ++ from_request_line bytes
+  pub is : from_request_line bytes ≡ t ++ 10 ∷ ys
+  pub on : first_of (behind_empty_line ys) (behind_head ys) ≡ Some r
+  pub some : 0 < length (without_cr t)
+  pub text : line ≡ without_cr t
+  pub behind : fields ≡ lines (take (length ys - length r) ys)
+
+pub first_is : (bytes r line : List ℕ) (fields : List (List ℕ)) → behind_head (from_request_line bytes) ≡ Some r → lines (take (length bytes - length r) bytes) ≡ line ∷ fields
+    → FirstOf bytes r line fields
+first_is bytes r line fields end cut =
     let xs = from_request_line bytes in
     let front = blanks bytes in
     let es = front.0.0 in
@@ -304,17 +316,34 @@ accept_here bytes r line fields end cut is all narrow =
     let first : lines (take k xs) ≡ w ∷ lines (take (length ys - length r) ys) =
     ap (λ (xs : List ℕ). lines (take (length xs - length r) xs)) l.is ∙ line_cut t ys r short l.none some in
     let both : line ∷ fields ≡ w ∷ lines (take (length ys - length r) ys) = sym cut ∙ (looked ∙ first) in
-    let text : line ≡ w = cc in
-    let behind : fields ≡ lines (take (length ys - length r) ys) = cc in
-    let s = section (length ys) ys r (omega arith) l.on (ap (list_all is_field_line) (sym behind) ∙ all) in
-    let e = ended t in
+    record {
+      es = es;
+      t = t;
+      ys = ys;
+      blank = front.0.1;
+      is = l.is;
+      on = l.on;
+      some = some;
+      text = cc;
+      behind = cc;
+    }
+
+accept_here : (bytes r line : List ℕ) (fields : List (List ℕ)) → behind_head (from_request_line bytes) ≡ Some r → lines (take (length bytes - length r) bytes) ≡ line ∷ fields
+    → is_request_line line ≡ true → list_all is_field_line fields ≡ true → IsNarrow line → (h : RequestHead) × ReadsRequest bytes h r
+accept_here bytes r line fields end cut is all narrow =
+    let xs = from_request_line bytes in
+    let l = first_is bytes r line fields end cut in
+    let es = l.es in
+    let ys = l.ys in
+    let s = section (length ys) ys r (omega arith) l.on (ap (list_all is_field_line) (sym l.behind) ∙ all) in
+    let e = ended l.t in
     let h = head_with es line e.0 s.0 s.1 in
     let z = flat_map print_field s.0 ++ (print_end s.1 ++ r) in
     let whole : xs ≡ line_of h ++ (print_end e.0 ++ z) =
     l.is
     ∙ (e.1 ys
-    ∙ (ap (λ (w : List ℕ). w ++ (print_end e.0 ++ ys)) (sym text ∙ words line narrow) ∙ ap (λ (ys : List ℕ). line_of h ++ (print_end e.0 ++ ys)) s.3)) in
-    (h, (head_is es line e.0 s.0 s.1 is narrow s.2, front.0.1 ∙ (ap (λ (xs : List ℕ). print_blank es ++ xs) whole ∙ sym (head_regroup h r))))
+    ∙ (ap (λ (w : List ℕ). w ++ (print_end e.0 ++ ys)) (sym l.text ∙ words line narrow) ∙ ap (λ (ys : List ℕ). line_of h ++ (print_end e.0 ++ ys)) s.3)) in
+    (h, (head_is es line e.0 s.0 s.1 is narrow s.2, l.blank ∙ (ap (λ (xs : List ℕ). print_blank es ++ xs) whole ∙ sym (head_regroup h r))))
 
 abbrev Accepted : List ℕ → ℕ → List ℕ → List (List ℕ) → Type 0
 Accepted bytes n line fields = (h : RequestHead) × ReadsRequest bytes h (drop n bytes) × SaysAs h line fields

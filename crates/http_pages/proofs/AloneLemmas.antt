@@ -30,7 +30,7 @@ line-length : (t : Bool) (b : ℕ) → length (cond t [] (b ∷ [])) ≤ 1
 line-length true b = omega arith
 line-length false b = omega arith
 
-from-length : (bytes : List ℕ) → length (from_request_line bytes) ≤ length bytes
+pub from-length : (bytes : List ℕ) → length (from_request_line bytes) ≤ length bytes
 unfolding from_request_line
 from-length [] = omega arith
 from-length (b ∷ []) = line-length (b == line_feed) b
@@ -76,7 +76,7 @@ cut-line false false b c rest tie line f g (suc (suc m)) k h w e =
     ap (λ (t : Bool). cond t (from_request_line (c ∷ take m rest)) (cond ((b == carriage_return) && (c == line_feed)) (from_request_line (take m rest)) (b ∷ c ∷ take m rest))) tie
     ∙ (ap (λ (t : Bool). cond t (from_request_line (take m rest)) (b ∷ c ∷ take m rest)) line ∙ sym (ap (λ (n : ℕ). take n (b ∷ c ∷ rest)) k2))
 
-cut : (bytes : List ℕ) → Cut bytes
+pub cut : (bytes : List ℕ) → Cut bytes
 unfolding from_request_line
 cut [] m k h w e = absurd (omega (arith, h, w))
 cut (b ∷ []) m k h w e = cut-one (b == line_feed) b m k refl h w e
@@ -161,7 +161,7 @@ unfolding behind_head
 head-less [] r e = absurd (none≢some r e)
 head-less (b ∷ bytes) r e = let l = step-less (b == line_feed) bytes r e (λ s f. let k = head-less bytes s f in omega (arith, k)) in omega (arith, l)
 
-abbrev CutHead : List ℕ → Type 0
+abbrev pub CutHead : List ℕ → Type 0
 CutHead bytes = (r : List ℕ) (m : ℕ) → behind_head bytes ≡ Some r → m + length r ≡ length bytes → behind_head (take m bytes) ≡ Some []
 
 head-first : (o : Option (List ℕ)) (bytes r : List ℕ) (m : ℕ) → behind_empty_line bytes ≡ o → first_of o (behind_head bytes) ≡ Some r → m + length r ≡ length bytes → CutHead bytes
@@ -176,7 +176,7 @@ head-step : (t : Bool) (bytes r : List ℕ) (m : ℕ) → cond t (first_of (behi
 head-step true bytes r m e h g = head-first (behind_empty_line bytes) bytes r m refl e h g
 head-step false bytes r m e h g = g r m e h
 
-cut-head : (bytes : List ℕ) → CutHead bytes
+pub cut-head : (bytes : List ℕ) → CutHead bytes
 unfolding behind_head
 cut-head [] r m e h = absurd (none≢some r e)
 cut-head (b ∷ bytes) r zero e h = absurd (let l = head-less (b ∷ bytes) r e in omega (arith, l, h))

@@ -9,3 +9,4 @@ pub mod GrammarLemmas
 pub mod AcceptLemmas
 pub mod NamingLemmas
 pub mod PartLemmas
+pub mod JudgeLemmas

@@ -156,7 +156,7 @@ behind_head-length [] r is = absurd (none-some r is)
 behind_head-length (b ∷ bs) r is = less_step (is_line_feed b) (behind_empty_line bs) b bs r refl (behind_head-length bs r) is
 
 -- a head that has ended ends there, whatever comes behind it
-record Ends (xs m : List ℕ) (n : ℕ) : Type 0 where
+pub record Ends (xs m : List ℕ) (n : ℕ) : Type 0 where
   pub shut : is_open (from_request_line xs) ≡ false
   pub same : head_length (xs ++ m) ≡ Some n
   pub some : 1 ≤ n
@@ -178,7 +178,7 @@ ends_by (Some r) xs m n e is =
       within = omega (arith, same);
     }
 
-ends : (xs m : List ℕ) (n : ℕ) → head_length xs ≡ Some n → Ends xs m n
+pub ends : (xs m : List ℕ) (n : ℕ) → head_length xs ≡ Some n → Ends xs m n
 ends xs m n is = ends_by (behind_head (from_request_line xs)) xs m n refl is
 
 bad_one : (t u : Bool) → (not t && not u) ≡ true → u ≡ false

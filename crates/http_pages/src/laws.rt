@@ -1,10 +1,10 @@
 //! What holds of all answers: each law is a function that does nothing, whose contract is the law.
 
-ghost use Rattle.std.specs.Prelude.{◌≡◌, ◌<◌, ◌≤◌, ◌++◌, ◌-◌, ℕ, true, List, length, take, drop, Some};
+ghost use Rattle.std.specs.Prelude.{◌≡◌, ◌<◌, ◌≤◌, ◌⊎◌, ◌++◌, ◌∷◌, ◌-◌, ℕ, true, List, length, take, drop, Some};
 ghost use Rattle.httparse.specs.Grammar.{RequestHead, ReadsRequest};
 ghost use Rattle.http_pages.specs.AnswerText.{answer_text, content};
-ghost use Rattle.http_pages.specs.Choosing.{nth_page};
-ghost use Rattle.http_pages.specs.Grammars.{IsHead, IsNarrow, SaysAs};
+ghost use Rattle.http_pages.specs.Choosing.{by_lines, nth_page};
+ghost use Rattle.http_pages.specs.Grammars.{IsHead, IsNarrow, IsRefusal, SaysAs};
 ghost use Rattle.http_pages.specs.Limits.{most_head};
 ghost use Rattle.http_pages.specs.Naming.{TellsOfTarget, tells_of_page};
 ghost use Rattle.http_pages.specs.Pages.{Page};
@@ -41,4 +41,13 @@ pub fn heads_are_the_grammars()
         → (line : List ℕ) × (fields : List (List ℕ)) × IsHead bytes (length bytes - length rest) line fields × IsNarrow line × SaysAs h line fields }
     ensures accepted { (bytes : List ℕ) (n : ℕ) (line : List ℕ) (fields : List (List ℕ)) → IsHead bytes n line fields → IsNarrow line
         → (h : RequestHead) × ReadsRequest bytes h (drop n bytes) × SaysAs h line fields }
+{}
+
+/// A head of at most 8,192 bytes is answered by its lines alone, and takes its own bytes. Each other answer is a refusal (400, 414, 431 or
+/// 505), behind which the connection ends.
+pub fn heads_are_answered()
+    ensures judged { (pages : List Page) (at : ℕ) (bytes : List ℕ) (n : ℕ) (line : List ℕ) (fields : List (List ℕ)) → IsHead bytes n line fields → n ≤ most_head
+        → answer_to pages at bytes ≡ Some (by_lines pages at (line ∷ fields), n) }
+    ensures others { (pages : List Page) (at : ℕ) (bytes : List ℕ) (found : Answer × ℕ) → answer_to pages at bytes ≡ Some found
+        → IsRefusal found.0 ⊎ ((line : List ℕ) × (fields : List (List ℕ)) × IsHead bytes found.1 line fields × (found.0 ≡ by_lines pages at (line ∷ fields))) }
 {}

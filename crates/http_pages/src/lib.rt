@@ -19,7 +19,7 @@ mod text;
 mod worked;
 
 pub use answer::{Answer, Status};
-pub use laws::{answers_stand, heads_are_the_grammars, pages_are_sent};
+pub use laws::{answers_stand, heads_are_answered, heads_are_the_grammars, pages_are_sent};
 pub use pages::{PackError, Pages};
 pub use reading::answer_to;
 pub use text::{body_of, head_of};

@@ -130,6 +130,10 @@ impl<A: Arrivals + Drop, K: Sink + Drop> Arrivals for Asking<A, K> {
             }
         }
     }
+
+    fn stop(&mut self) {
+        self.source.stop();
+    }
 }
 
 // What comes behind the last item: the end, once all are answered.

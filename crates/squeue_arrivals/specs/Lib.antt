@@ -4,6 +4,7 @@ pub mod Giving
 pub mod Iterating
 pub mod Listing
 pub mod Channelling
+pub mod Piping
 pub mod Keyed
 pub mod Pooling
 pub mod Stayed

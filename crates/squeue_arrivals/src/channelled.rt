@@ -1,18 +1,21 @@
 //! A channel as a source: any number of threads send items into it, each with its key.
 ghost use Rattle.std.specs.Prelude.{◌≡◌, []};
-ghost use Rattle.squeue_arrivals.specs.Channelling.{received_by};
+ghost use Rattle.squeue_arrivals.specs.Channelling.{is_hung_up, received_by};
 
 use crate::given_items::GivenItems;
 use crate::source::{Arrival, Arrivals};
 use crossbeam_channel::{Receiver, TryRecvError};
 use std::sync::Wait;
 
-/// The end of a channel that receives. It is over when each sender was dropped, and nothing is left in the channel: no clause says so, since
-/// the contracts of a channel tell nothing of its ends, nor why nothing was received. What was received stands in `given`, for contracts alone.
+/// The end of a channel that receives. It is over once the channel has answered that each sender was dropped, and nothing is left in it. What
+/// that answer means no clause says, since the contracts of a channel tell nothing of its ends, nor why nothing was received. Where an item is
+/// refused this end is dropped, so that `send` fails. What was received stands in `given`, for contracts alone.
 #[derive(Drop)]
 pub struct Channelled<'r, T: Drop, W: Wait> {
     rt: &'r W,
-    input: Receiver<(u64, T)>,
+    // None, where it was stopped.
+    input: Option<Receiver<(u64, T)>>,
+    over: bool,
     given: GivenItems<T>,
 }
 
@@ -23,7 +26,8 @@ impl<'r, T: Drop, W: Wait> Channelled<'r, T, W> {
     {
         Channelled {
             rt,
-            input,
+            input: Some(input),
+            over: false,
             given: GivenItems::none(),
         }
     }
@@ -38,15 +42,25 @@ impl<T: Drop, W: Wait> Arrivals for Channelled<'_, T, W> {
 
     ghost given = { received_by };
 
-    ghost is_over = { λ _. Unit {0} };
+    ghost is_over = { is_hung_up };
 
     fn next(&mut self) -> Arrival<T> {
-        let arrival = match self.input.try_recv(self.rt) {
+        let Some(input) = &self.input else {
+            return Arrival::NoneYet;
+        };
+        let arrival = match input.try_recv(self.rt) {
             Ok((key, item)) => Arrival::Item(key, item),
             Err(TryRecvError::Empty) => Arrival::NoneYet,
-            Err(TryRecvError::Disconnected) => Arrival::End,
+            Err(TryRecvError::Disconnected) => {
+                self.over = true;
+                Arrival::End
+            }
         };
         self.given = self.given.and(&arrival);
         arrival
+    }
+
+    fn stop(&mut self) {
+        self.input = None;
     }
 }

@@ -64,6 +64,8 @@ impl<T: Drop, I: Iterator<Item = (u64, T)> + Drop> Arrivals for Iterated<T, I> {
         self.given = self.given.and(&arrival);
         arrival
     }
+
+    fn stop(&mut self) {}
 }
 
 // What an iterator's answer is as a source's.

@@ -249,12 +249,14 @@ fn serve_all<X: KeySteps + Drop, A: Arrivals<Item = X::Item>, H: Wait + Drop, W:
         match arrival {
             Arrival::Item(key, item) => {
                 if left == 0 {
+                    source.stop();
                     let cause = Cause::LifeIsOver;
                     return (pass, Some(Refused { key, item, cause }));
                 }
                 left -= 1;
                 let (next, refused) = arrive(line, alloc, pass, stays, keys, key, item);
                 if refused.is_some() {
+                    source.stop();
                     return (next, refused);
                 }
                 pass = next;

@@ -34,6 +34,11 @@ pub trait Arrivals {
         ensures origin { origin self.new ≡ origin self.old }
         ensures given { given self.new ≡ given self.old ++ told result }
         ensures over { result ≡ Arrival.End → is_over self.new };
+
+    /// An item of it was refused, so it isn't asked any more. Whoever gives to it should meet an error from now on, and not wait.
+    fn stop(&mut self)
+        ensures origin { origin self.new ≡ origin self.old }
+        ensures given { given self.new ≡ given self.old };
 }
 
 /// A list of items with their keys as a source, which gives them in order. Those that are left stand last first.
@@ -78,4 +83,6 @@ impl<T: Drop> Arrivals for Listed<T> {
             None => Arrival::End,
         }
     }
+
+    fn stop(&mut self) {}
 }

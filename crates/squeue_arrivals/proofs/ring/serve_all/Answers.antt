@@ -40,8 +40,8 @@ returns-then-left-eq0-clause-given g c =
     let given = g.A.Arrivals.given in
     let next = c.next-arrival.ensures.given ∙ ap (λ a. given c.items.source ++ told a) c.in-Item.is in
     let many : most_of_ring ≤ length i.all = omega (arith, i.counted, c.if-left-eq0.true) in
-    refused_so (Tells g.X.KeySteps.step) limits_of c.args.line.now.squeue.now (origin_of c.args.line.now.squeue.now.given.first) g.A.Arrivals.origin g.A.Arrivals.given g.A.Arrivals.is_over i.all c.items.pass c.items.stays c.items.keys (record { key = c.in-Item.key; item = c.in-Item.item; cause = Cause'.LifeIsOver }) c.args.source.now c.next-arrival.new.self
-    i.has (gave_more (given c.args.source.now) i.all (given c.items.source) (given c.next-arrival.new.self) ((c.in-Item.key, c.in-Item.item) ∷ []) i.gave next) (c.next-arrival.ensures.origin ∙ i.same) many
+    refused_so (Tells g.X.KeySteps.step) limits_of c.args.line.now.squeue.now (origin_of c.args.line.now.squeue.now.given.first) g.A.Arrivals.origin g.A.Arrivals.given g.A.Arrivals.is_over i.all c.items.pass c.items.stays c.items.keys (record { key = c.in-Item.key; item = c.in-Item.item; cause = Cause'.LifeIsOver }) c.args.source.now c.stop.new.self
+    i.has (c.stop.ensures.given ∙ gave_more (given c.args.source.now) i.all (given c.items.source) (given c.next-arrival.new.self) ((c.in-Item.key, c.in-Item.item) ∷ []) i.gave next) (c.stop.ensures.origin ∙ (c.next-arrival.ensures.origin ∙ i.same)) many
 
 pub arrive-next-requires-clause-keys : goal.arrive-next-requires-clause-keys
 arrive-next-requires-clause-keys g c = (c.items.invariant.all, c.items.invariant.has, omega (arith, c.items.invariant.counted, c.if-left-eq0.false))
@@ -64,8 +64,8 @@ returns-then-is_some-clause-given g c =
     let given = g.A.Arrivals.given in
     let next = c.next-arrival.ensures.given ∙ ap (λ a. given c.items.source ++ told a) c.in-Item.is in
     let some : is_some c.arrive-next.result.1 ≡ true = search rules in
-    stopped (Tells g.X.KeySteps.step) limits_of c.args.line.now.squeue.now (origin_of c.args.line.now.squeue.now.given.first) g.A.Arrivals.origin g.A.Arrivals.given g.A.Arrivals.is_over i.all c.in-Item.key c.in-Item.item c.arrive-next.result.0 c.arrive-next.new.stays c.arrive-next.new.keys c.arrive-next.result.1 c.args.source.now c.next-arrival.new.self some
-    (c.arrive-next.ensures.arrived i.all i.has) (gave_more (given c.args.source.now) i.all (given c.items.source) (given c.next-arrival.new.self) ((c.in-Item.key, c.in-Item.item) ∷ []) i.gave next) (c.next-arrival.ensures.origin ∙ i.same)
+    stopped (Tells g.X.KeySteps.step) limits_of c.args.line.now.squeue.now (origin_of c.args.line.now.squeue.now.given.first) g.A.Arrivals.origin g.A.Arrivals.given g.A.Arrivals.is_over i.all c.in-Item.key c.in-Item.item c.arrive-next.result.0 c.arrive-next.new.stays c.arrive-next.new.keys c.arrive-next.result.1 c.args.source.now c.stop-then-is_some.new.self some
+    (c.arrive-next.ensures.arrived i.all i.has) (c.stop-then-is_some.ensures.given ∙ gave_more (given c.args.source.now) i.all (given c.items.source) (given c.next-arrival.new.self) ((c.in-Item.key, c.in-Item.item) ∷ []) i.gave next) (c.stop-then-is_some.ensures.origin ∙ (c.next-arrival.ensures.origin ∙ i.same))
 
 pub items-preserved-else-is_some-2 : goal.items-preserved-else-is_some-2
 items-preserved-else-is_some-2 g c =
