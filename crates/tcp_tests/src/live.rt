@@ -1,8 +1,6 @@
 //! Two clients at a server with one place. The initial sequence numbers are those of an implementation of SHA-256 elsewhere.
 
-use live_server::{
-    Datagram, NO_PORTS, PLAIN_PORTS, Ports, Secret, Server, Setting, USUAL_MARKING,
-};
+use live_server::{Datagram, NO_PORTS, PLAIN_PORTS, Ports, Secret, Server, Setting, USUAL_MARKING};
 use segment_codec::{Packet, Seg, decode};
 use sq_base::{Addr, Link};
 use std::alloc::{AllocError, Global};
