@@ -132,7 +132,9 @@ impl<A: Arrivals + Drop, K: Sink + Drop> Arrivals for Asking<A, K> {
     }
 
     fn stop(&mut self) {
-        self.source.stop();
+        if !self.over {
+            self.source.stop();
+        }
     }
 }
 
