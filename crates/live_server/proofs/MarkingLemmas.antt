@@ -15,7 +15,7 @@ use Rattle.segment_codec.specs.declared.packet.Reply.{Reply}
 use Rattle.segment_codec.proofs.SentIsReadLemmas.{reads_again}
 use Rattle.segment_codec.proofs.SumLemmas.{header_sums, length-tcp_with, sum_completes}
 use Rattle.segment_codec.specs.declared.packet.Seg.{Seg}
-use Rattle.live_server.specs.Acts.{after, allowed, bared, challenged, emptied, is_allowed, judged, reached, taken}
+use Rattle.live_server.specs.Acts.{after, allowed, bared, challenged, emptied, is_allowed, judged, reached, repaired, taken}
 use Rattle.live_server.specs.PathMtu.{is_heeded, path_told, shortened}
 use Rattle.live_server.specs.Promises.{MarkingStays, PathKeepsMarking, segment, time}
 use Rattle.live_server.specs.declared.conn.Conn.{Conn}
@@ -227,7 +227,7 @@ chosen_marking true x y c first second = first
 chosen_marking false x y c first second = second
 
 taken_marking : (now iss : ℕ) (s : Seg) (text : List ℕ) (c : Conn) → (taken now iss s text c).marking ≡ c.marking
-unfolding taken
+unfolding taken repaired
 taken_marking now iss s text c = refl
 
 allowed_marking : (now iss : ℕ) (s : Seg) (c : Conn) → (allowed now iss s c).marking ≡ c.marking

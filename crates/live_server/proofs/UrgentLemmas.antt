@@ -7,7 +7,7 @@ use Rattle.segment_codec.specs.Places.{word}
 use Rattle.segment_codec.specs.Refusal.{tuple_of}
 use Rattle.segment_codec.specs.declared.packet.Seg.{Seg}
 use Rattle.sq_base.specs.declared.kinds.Tuple.{Tuple}
-use Rattle.live_server.specs.Acts.{after, allowed, bared, challenged, is_allowed, judged, taken}
+use Rattle.live_server.specs.Acts.{after, allowed, bared, challenged, is_allowed, judged, repaired, taken}
 use Rattle.live_server.specs.Counting.{more}
 use Rattle.live_server.specs.Isolation.{IsTable, KeepsRest, Loses, Stays, UrgentIsItsOwn, conn_of, kept_as}
 use Rattle.live_server.specs.Promises.{Advances, SegmentRaisesNone, TimeRaisesNone, UnflaggedSaysNothing, UrgentAdvances}
@@ -160,7 +160,7 @@ urgent_advances now p s c = by (is_news now p s c) refl
         }
 
 taken_less : (now iss : ℕ) (s : Seg) (text : List ℕ) (c : Conn) → (taken now iss s text c).urgent ≤ c.urgent
-unfolding taken
+unfolding taken repaired
 taken_less now iss s text c = omega arith
 
 allowed_less : (now iss : ℕ) (s : Seg) (c : Conn) → (allowed now iss s c).urgent ≤ c.urgent
