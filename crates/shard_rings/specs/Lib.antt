@@ -1,0 +1,6 @@
+pub mod Cells
+pub mod Columns
+pub mod Knowing
+pub mod Rows
+pub mod Runs
+pub mod Tasks
