@@ -1,5 +1,6 @@
 pub mod Cells
 pub mod Columns
+pub mod Jobs
 pub mod Knowing
 pub mod Rows
 pub mod Runs

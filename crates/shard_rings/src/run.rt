@@ -1,4 +1,7 @@
 //! A whole run.
+ghost use Rattle.shards.specs.Sharing.{limits_for};
+ghost use Rattle.shard_rings.specs.Jobs.{HasDone, MayDo, MayEnter};
+
 use crate::bringing::Brings;
 use crate::cell::Cell;
 use crate::ending::gather;
@@ -108,7 +111,11 @@ fn run_job<X: Shared + Drop, B: Brings<Parcel = X::Parcel> + Drop, W: Wait>(
     pool: &ShardPool,
     squeues: &[Squeue<Shard<X, &W>>],
     job: &mut Job<Task<B, X::Parcel>>,
-) {
+)
+    requires pool { MayEnter pool.now }
+    requires may { MayDo limits_for squeues.now job.old.task job.old.places.items }
+    ensures { HasDone limits_for squeues.now B.did job.old.task job.old.places.items job.new.task job.new.places.items }
+{
     match replace(&mut job.task, Task::Work(0)) {
         Task::Ring(ring) => {
             let places = replace(&mut job.places, Vec::new(alloc));
