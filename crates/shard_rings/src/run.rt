@@ -122,7 +122,7 @@ fn run_job<X: Shared + Drop, B: Brings<Parcel = X::Parcel> + Drop, W: Wait>(
 {
     match replace(&mut job.task, Task::Work(0)) {
         Task::Ring(ring) => {
-            job.task = Task::Ring(bring(rt, alloc, pool, squeues, &mut job.places, ring));
+            job.task = Task::Ring(bring(&rt, alloc, pool, squeues, &mut job.places, ring));
         }
         Task::Work(q) => {
             work(rt, alloc, &NoHook, &squeues[q as usize], &mut job.places[0]);
@@ -132,11 +132,11 @@ fn run_job<X: Shared + Drop, B: Brings<Parcel = X::Parcel> + Drop, W: Wait>(
 }
 
 // Has a ring bring, and closes its passes.
-fn bring<X: Shared + Drop, B: Brings<Parcel = X::Parcel> + Drop, W: Wait>(
-    rt: &W,
+fn bring<X: Shared + Drop, B: Brings<Parcel = X::Parcel> + Drop, H: Wait + Drop>(
+    rt: &H,
     alloc: Global,
     pool: &ShardPool,
-    squeues: &[Squeue<Shard<X, &W>>],
+    squeues: &[Squeue<Shard<X, H>>],
     places: &mut Vec<Option<Pass>>,
     ring: RingTask<B, X::Parcel>,
 ) -> RingTask<B, X::Parcel>
@@ -153,11 +153,11 @@ fn bring<X: Shared + Drop, B: Brings<Parcel = X::Parcel> + Drop, W: Wait>(
 }
 
 // Has a ring bring by these passes, which it may close then.
-fn run_by<X: Shared + Drop, B: Brings<Parcel = X::Parcel> + Drop, W: Wait>(
-    rt: &W,
+fn run_by<X: Shared + Drop, B: Brings<Parcel = X::Parcel> + Drop, H: Wait + Drop>(
+    rt: &H,
     alloc: Global,
     pool: &ShardPool,
-    squeues: &[Squeue<Shard<X, &W>>],
+    squeues: &[Squeue<Shard<X, H>>],
     places: Vec<Option<Pass>>,
     ring: RingTask<B, X::Parcel>,
 ) -> (RingTask<B, X::Parcel>, Vec<Option<Pass>>)
