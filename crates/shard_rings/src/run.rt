@@ -84,15 +84,16 @@ where
 
 // Runs the jobs. Where not all squeues could be made, it ends what was made.
 fn run_or_end<
+    'a,
     X: Shared + Drop + Send,
     B: Brings<Parcel = X::Parcel> + Drop + Send,
     W: Threads + Wait + Sync,
 >(
-    rt: &W,
+    rt: &'a W,
     alloc: Global,
     pool: &ShardPool,
     made: &Result<(), AllocError>,
-    squeues: &[Squeue<Shard<X, &W>>],
+    squeues: &[Squeue<Shard<X, &'a W>>],
     count: usize,
     jobs: &mut Vec<Job<Task<B, X::Parcel>>>,
 )
@@ -109,11 +110,11 @@ where
 }
 
 // Does one job: a ring brings and closes its passes, or a squeue is worked to its end.
-fn run_job<X: Shared + Drop, B: Brings<Parcel = X::Parcel> + Drop, W: Wait>(
-    rt: &W,
+fn run_job<'a, X: Shared + Drop, B: Brings<Parcel = X::Parcel> + Drop, W: Wait>(
+    rt: &'a W,
     alloc: Global,
     pool: &ShardPool,
-    squeues: &[Squeue<Shard<X, &W>>],
+    squeues: &[Squeue<Shard<X, &'a W>>],
     job: &mut Job<Task<B, X::Parcel>>,
 )
     requires pool { MayEnter pool.now }
