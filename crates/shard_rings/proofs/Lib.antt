@@ -1,3 +1,4 @@
 pub mod Columns
 pub mod Knowing
+pub mod Laying
 pub mod Rows

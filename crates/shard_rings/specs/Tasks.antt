@@ -13,11 +13,16 @@ use Rattle.shard_rings.specs.declared.run.Task.TheVariants.{Ring, Work}
 use Rattle.shard_rings.specs.Knowing.{Serves, came_of, sent_of}
 use Rattle.shard_rings.specs.Rows.{SameEnds}
 
-module _ {B T : Type 0} where
-  -- a new row: nothing was sent, came back or was entered
-  abbrev pub IsNewCell : Cell T → Type 0
-  IsNewCell c = (sent_of c ≡ []) × (came_of c ≡ []) × (c.entered ≡ 0)
+-- a new cell: nothing was sent, came back or was entered
+abbrev pub IsNewCell : {T : Type 0} → Cell T → Type 0
+IsNewCell c = (sent_of c ≡ []) × (came_of c ≡ []) × (c.entered ≡ 0)
 
+-- the pass has ended, and entered so many feeds
+pub record HasFed {R : Type 0} (limits : R → Limits) (ring n : ℕ) (s : Named R) (p : Pass Element) : Type 0 where
+  pub end : MayEnd limits ring s p
+  pub fed : feeds_by ring (seen p) ≡ n
+
+module _ {B T : Type 0} where
   module _ {R : Type 0} (limits : R → Limits) (squeues : List (Named R)) where
     -- a ring has a new pass and a new cell of each squeue, and each serves it
     pub record IsReady (places : List (Option (Pass Element))) (a : RingTask B T) : Type 0 where
@@ -26,11 +31,6 @@ module _ {B T : Type 0} where
       pub new : (q : ℕ) (c : Cell T) → slice_get a.cells.items q ≡ Some c → IsNewCell c
       pub serves : (q : ℕ) (s : Named R) → slice_get squeues q ≡ Some s → Serves limits s a.number
 
-    -- the pass has ended, and entered so many feeds
-    pub record HasFed (ring n : ℕ) (s : Named R) (p : Pass Element) : Type 0 where
-      pub end : MayEnd limits ring s p
-      pub fed : feeds_by ring (seen p) ≡ n
-
     -- it did what it does, by its cells, and entered a feed for each parcel that it sent
     pub record HasBrought (Did : B → List (List T) → List (List T) → B → Type 0) (places : List (Option (Pass Element))) (a b : RingTask B T) : Type 0 where
       pub number : b.number ≡ a.number
@@ -38,4 +38,4 @@ module _ {B T : Type 0} where
       pub ends : SameEnds a.cells.items b.cells.items
       pub count : length places ≡ length squeues
       pub fed : (q : ℕ) (s : Named R) (o : Option (Pass Element)) (c : Cell T) → slice_get squeues q ≡ Some s → slice_get places q ≡ Some o
-          → slice_get b.cells.items q ≡ Some c → Holds (HasFed a.number (length (sent_of c)) s) o
+          → slice_get b.cells.items q ≡ Some c → Holds (HasFed limits a.number (length (sent_of c)) s) o
