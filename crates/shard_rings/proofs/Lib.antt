@@ -1,3 +1,5 @@
+pub mod Beginning
+pub mod Closing
 pub mod Columns
 pub mod Knowing
 pub mod Laying

@@ -1,15 +1,17 @@
 -- A ring's row, in which one cell changed.
-use Rattle.std.proofs.Common.{◌≡◌, ◌≢◌, ℕ, zero, suc, ◌==◌, ◌<◌, Bool, true, false, Option, Some, List, [], ◌∷◌, ◌++◌, length, map, slice_get, slice_set, slice_index_or, refl, ap, sym, ◌∙◌, subst, arith}
+use Rattle.std.proofs.Common.{◌≡◌, ◌≢◌, ℕ, zero, suc, ◌==◌, ◌<◌, Bool, true, false, Option, None, Some, IfNone, IfSome, List, [], ◌∷◌, ◌++◌, length, map, slice_get, slice_set, slice_index_or, refl, ap, sym, ◌∙◌, subst, arith}
 use Rattle.std.proofs.lemmas.Bool.{eqb-true, eq-eqb}
 use Rattle.std.proofs.lemmas.List.{length-set}
-use Rattle.std.proofs.lemmas.Option.{slice_get_within}
+use Rattle.std.proofs.lemmas.Option.{slice_get-get_or, slice_get_read, slice_get_within}
+use Rattle.rtrb.specs.Ring.{SameProducer, sent}
 use Rattle.perimeter_core.proofs.ActLists.{get_other, get_same}
 use Rattle.turn_gate.specs.declared.pass.Pass.{Pass}
 use Rattle.perimeter_core.specs.History.{Element, Limits}
 use Rattle.squeue_state.specs.Naming.{Named}
 use Rattle.shard_rings.specs.declared.cell.Cell.{Cell}
 use Rattle.shard_rings.specs.Cells.{cell}
-use Rattle.shard_rings.specs.Knowing.{SameEnd}
+use Rattle.squeue_serve.specs.Places.{Holds}
+use Rattle.shard_rings.specs.Knowing.{IsAt, IsBeside, SameEnd, sent_of}
 use Rattle.shard_rings.specs.Rows.{AreKnown, IsKnown, SameEnds}
 
 pub some_is : {A : Type 0} {x y : A} → Some x ≡ Some y → x ≡ y
@@ -99,3 +101,60 @@ module _ {T : Type 0} where
               let one : y ≡ d = at_set cells q d y (slice_get_within cells q c at) (ap (slice_get (slice_set cells q d)) here ∙ there) in
               subst (λ z. SameEnd x z) (sym one) (ends_then x c d (ends.each p x c its (ap (slice_get cells) (sym here) ∙ at)) same)
           go false other = ends.each p x y its (sym (get_other cells q p d (apart_by q p other)) ∙ there)
+
+-- what is read at a number stands there
+read_at : {A : Type 0} (xs : List A) (q : ℕ) (x : A) → q < length xs → x ≡ slice_index_or xs q x → slice_get xs q ≡ Some x
+read_at xs q x lt is = slice_get_read xs (length xs) q x refl lt is
+
+module _ {A T : Type 0} (f : A → List T) (xs : List A) (q : ℕ) (x y : A) (range : q < length xs) (is : x ≡ slice_index_or xs q x) where
+  -- more in one cell
+  pub set_more : (added : List T) → f y ≡ f x ++ added → map f (slice_set xs q y) ≡ slice_set (map f xs) q (cell (map f xs) q ++ added)
+  set_more added more = map_set f xs q y ∙ ap (slice_set (map f xs) q) (more ∙ ap (λ l. l ++ added) (sym (cell_is f xs q x (read_at xs q x range is))))
+
+  pub set_same : f y ≡ f x → map f (slice_set xs q y) ≡ map f xs
+  set_same same = map_kept f xs q x y (read_at xs q x range is) same
+
+  -- where one more may be there
+  pub none_more : (o : Option T) → IfNone o (f y ≡ f x) → IfNone o (map f (slice_set xs q y) ≡ map f xs)
+  none_more None same = set_same same
+  none_more (Some v) same = same
+
+  pub some_more : (o : Option T) → IfSome o (λ v. f y ≡ f x ++ v ∷ []) → IfSome o (λ v. map f (slice_set xs q y) ≡ slice_set (map f xs) q (cell (map f xs) q ++ v ∷ []))
+  some_more None more = more
+  some_more (Some v) more = set_more (v ∷ []) more
+
+module _ {T : Type 0} (a b : Cell T) (beside : IsBeside a b) where
+  pub same_sent : sent_of b ≡ sent_of a
+  same_sent = ap sent beside.output
+
+  pub same_end : SameEnd a b
+  same_end = (subst (SameProducer a.end.output) (sym beside.output) ((refl, refl, refl, refl), refl), beside.back)
+
+module _ {R T : Type 0} (limits : R → Limits) (ring : ℕ) (squeues : List (Named R)) (places : List (Option (Pass Element))) (cells : List (Cell T)) (q : ℕ) (known : AreKnown limits ring squeues places cells) (range : q < length cells) where
+  in_squeues : q < length squeues
+  in_squeues = subst (λ n. q < n) known.cells_count range
+
+  in_places : q < length places
+  in_places = subst (λ n. q < n) (sym known.places_count) in_squeues
+
+  -- what is known of one squeue
+  pub known_at : (s : Named R) (o : Option (Pass Element)) (c : Cell T) → o ≡ slice_index_or places q o → c ≡ slice_index_or cells q c → IsKnown limits ring (slice_index_or squeues q s) o c
+  known_at s o c is its = known.each q (slice_index_or squeues q s) o c (slice_get-get_or squeues q s in_squeues) (read_at places q o in_places is) (read_at cells q c range its)
+
+  module _ (first : List (Cell T)) (ends : SameEnds first cells) (c d : Cell T) (its : c ≡ slice_index_or cells q c) where
+    -- and of all, when something was done there
+    pub ready_set : (s : Named R) (o : Option (Pass Element)) → IsKnown limits ring (slice_index_or squeues q s) o d → SameEnd c d → AreKnown limits ring squeues (slice_set places q o) (slice_set cells q d) × SameEnds first (slice_set cells q d)
+    ready_set s o is same =
+        (known_set limits ring squeues places cells q (slice_index_or squeues q s) o d (slice_get-get_or squeues q s in_squeues) in_squeues is known, ends_set first cells q c d (read_at cells q c range its) same ends)
+
+    -- when a parcel was popped there
+    pub ready_beside : IsBeside c d → AreKnown limits ring squeues places (slice_set cells q d) × SameEnds first (slice_set cells q d)
+    ready_beside beside =
+        (known_cell limits ring squeues places cells q c d (read_at cells q c range its) then known, ends_set first cells q c d (read_at cells q c range its) (same_end c d beside) ends)
+      where
+        then : (s : Named R) (o : Option (Pass Element)) → IsKnown limits ring s o c → IsKnown limits ring s o d
+        then s o is =
+            record {
+              serves = is.serves;
+              at = subst (λ (n : ℕ). Holds (IsAt limits s ring n (length (sent_of d))) o) (sym beside.entered) (subst (λ (l : List T). Holds (IsAt limits s ring c.entered (length l)) o) (sym (same_sent c d beside)) is.at);
+            }

@@ -4,7 +4,7 @@ use Rattle.rtrb.specs.Ring.{SameConsumer, SameProducer, received, sent}
 use Rattle.turn_gate.specs.Passes.{IsPassOf, number, seen}
 use Rattle.turn_gate.specs.declared.pass.Pass.{Pass}
 use Rattle.perimeter_core.specs.Perimeter.{Idle, is_here}
-use Rattle.perimeter_core.specs.History.{Element, Limits, ask_quota, feed_quota, run}
+use Rattle.perimeter_core.specs.History.{Element, Limits, ask_quota, feed_quota, run, start}
 use Rattle.perimeter_core.specs.Deeds.{due, times_left}
 use Rattle.perimeter_core.specs.Legal.{asks_by, feeds_by}
 use Rattle.histories.specs.Elements.{number_of}
@@ -30,11 +30,12 @@ module _ {T : Type 0} where
     pub back : SameConsumer a.end.back b.end.back
 
 module _ {R : Type 0} (limits : R → Limits) (s : Named R) where
-  -- The squeue serves this ring: the ring has feeds, asks and leaves enough for a life of 2^50 parcels
+  -- The squeue serves this ring: its part is here at the start, and it has feeds, asks and leaves enough for a life of 2^50 parcels
   pub record Serves (ring : ℕ) : Type 0 where
     pub its_ring : ring ≡ ring % s.given.rings
     pub no_worker : ring < length s.given.quotas
     pub range : ring < length s.given.starts
+    pub begins : is_here (start (setting_of limits s.given)) ring ≡ true
     pub numbers : 2 ^ 31 ≤ slice_index (limits s.given.first).feeds ring
     pub leaves : 2 ^ 50 + 1 ≤ slice_index (limits s.given.first).leaves ring
     pub feeds : 2 ^ 50 ≤ feed_quota (setting_of limits s.given) ring

@@ -30,6 +30,10 @@ pub trait Lanes {
     fn squeues(&self) -> usize
         ensures { result ≡ length (sent self.now) };
 
+    /// How many parcels of a lane may be out.
+    fn most_out(&self) -> u64
+        ensures { result ≡ room self.now };
+
     /// How many parcels of lane `q` are out: they were sent, and weren't taken back.
     fn out(&self, q: usize) -> u64
         requires ready { ready self.now }

@@ -53,6 +53,10 @@ impl<'q, X: Shared + Drop, H: Wait + Drop, W: Wait> Lanes for RingLanes<'q, X, H
         self.cells.len()
     }
 
+    fn most_out(&self) -> u64 {
+        u64::from(self.pool.parcels)
+    }
+
     fn out(&self, q: usize) -> u64 {
         self.cells[q].pushed - self.cells[q].popped
     }

@@ -5,24 +5,23 @@ ghost use Rattle.squeue_serve.specs.Lending.{AreLent, HaveRoom, lent_to, tasks_i
 ghost use Rattle.squeue_serve.specs.Places.{IsNew, MayEnd};
 ghost use Rattle.shards.specs.Sharing.{limits_for};
 ghost use Rattle.shard_rings.specs.Columns.{rings_in};
-ghost use Rattle.shard_rings.specs.Jobs.{AllServe, HasBroughtOf, HasDone, HaveDone, MayDo, MayEnter};
+ghost use Rattle.shard_rings.specs.Jobs.{AllServe, HasBroughtOf, HaveDone, MayDo, MayEnter};
 ghost use Rattle.shard_rings.specs.Making.{AreTasks, HasBegun, IsNewRing};
 ghost use Rattle.shard_rings.specs.Rooms.{HasRoom};
 ghost use Rattle.shard_rings.specs.Runs.{HasRun};
 
 use crate::bringing::Brings;
 use crate::cell::Cell;
+use crate::doing::run_job;
 use crate::ending::{finish_all, gather, take_apart};
 use crate::making::{make_all, residents_of, tasks_of};
 use crate::pool::ShardPool;
-use crate::ring::RingLanes;
-use perimeter_core::{Known, NoHook};
+use perimeter_core::NoHook;
 use shards::{Shard, Shared};
 use squeue_pool::Left;
-use squeue_serve::{Job, Squeues, close_all, discard, jobs_of, run_each, run_unused, work};
+use squeue_serve::{Job, Squeues, discard, jobs_of, run_each, run_unused};
 use squeue_state::{Ended, Squeue};
 use std::alloc::{AllocError, Global};
-use std::mem::replace;
 use std::sync::Wait;
 use std::thread::Threads;
 
@@ -263,60 +262,4 @@ where
         jobs,
         &|_, job: &mut Job<Task<B, X::Parcel>>| { run_job(rt, alloc, pool, squeues, job) },
     );
-}
-
-// Does one job: a ring brings and closes its passes, or a squeue is worked to its end.
-fn run_job<X: Shared + Drop, B: Brings<Parcel = X::Parcel> + Drop, W: Wait>(
-    rt: &W,
-    alloc: Global,
-    pool: &ShardPool,
-    squeues: &[Squeue<Shard<X, &W>>],
-    job: &mut Job<Task<B, X::Parcel>>,
-)
-    requires pool { MayEnter pool.now }
-    requires may { MayDo limits_for squeues.now job.old.task job.old.places.items }
-    ensures { HasDone limits_for squeues.now B.did job.old.task job.old.places.items job.new.task job.new.places.items }
-{
-    match replace(&mut job.task, Task::Work(0)) {
-        Task::Ring(ring) => {
-            let places = replace(&mut job.places, Vec::new(alloc));
-            let RingTask {
-                number,
-                mut bringer,
-                cells,
-            } = ring;
-            let first = Known::of(&cells);
-            let mut lanes = RingLanes {
-                rt,
-                squeues,
-                pool: *pool,
-                ring: number,
-                cells,
-                first,
-                places,
-            };
-            bringer.bring(alloc, &mut lanes);
-            let RingLanes {
-                rt: _,
-                squeues: _,
-                pool: _,
-                ring: _,
-                cells,
-                first: _,
-                places,
-            } = lanes;
-            let empty = replace(&mut job.places, places);
-            empty.destroy_empty();
-            close_all(rt, squeues, &mut job.places);
-            job.task = Task::Ring(RingTask {
-                number,
-                bringer,
-                cells,
-            });
-        }
-        Task::Work(q) => {
-            work(rt, alloc, &NoHook, &squeues[q as usize], &mut job.places[0]);
-            job.task = Task::Work(q);
-        }
-    }
 }

@@ -50,17 +50,32 @@ pub(crate) fn send<X: Shared + Drop, H: Wait + Drop, W: Wait>(
     ensures back { came_of cell.new ≡ came_of cell.old }
     ensures end { SameEnd cell.old cell.new }
 {
-    let pass = if cell.entered >= way.span {
-        cell.entered = 0;
-        renew(way, alloc, pass)
-    } else {
-        pass
-    };
+    let pass = begin_anew(way, alloc, pass, cell);
     push(way.rt, &mut cell.end.output, parcel);
     cell.pushed += 1;
     let n = cell.entered;
     cell.entered += 1;
     enter(way, alloc, pass, n)
+}
+
+// Begins the numbers of the ring's feeds anew, where as many were entered as its span has.
+fn begin_anew<X: Shared + Drop, H: Wait + Drop, W: Wait>(
+    way: &Way<'_, Shard<X, H>, W>,
+    alloc: Global,
+    pass: Pass,
+    cell: &mut Cell<X::Parcel>,
+) -> Pass
+    requires serves { Serves limits_for way.now.squeue.now way.now.ring }
+    requires at { IsAt limits_for way.now.squeue.now way.now.ring cell.old.entered (length (sent_of cell.old)) pass }
+    ensures at { IsAt limits_for way.now.squeue.now way.now.ring cell.new.entered (length (sent_of cell.new)) result }
+    ensures below { cell.new.entered < 2 ^ 31 }
+    ensures end { cell.new.end ≡ cell.old.end }
+{
+    if cell.entered < way.span {
+        return pass;
+    }
+    cell.entered = 0;
+    renew(way, alloc, pass)
 }
 
 // Pushes a parcel. It waits for room.

@@ -6,7 +6,7 @@ use Rattle.shard_rings.proofs.way.renew.Goals as goal
 pub take_out-pass-requires : goal.take_out-pass-requires
 take_out-pass-requires g c =
     let at = c.requires.at in
-    may_leave limits_for c.args.way.now.squeue.now c.args.way.now.ring at.0 at.1 c.args.pass c.requires.serves at.3 at.4
+    record { may = may_leave limits_for c.args.way.now.squeue.now c.args.way.now.ring at.0 at.1 c.args.pass c.requires.serves at.3 at.4 }
 
 pub put_in-requires-clause-may : goal.put_in-requires-clause-may
 put_in-requires-clause-may g c =
