@@ -6,8 +6,10 @@ use Rattle.squeue_state.specs.Naming.{Named}
 use Rattle.squeue_serve.specs.declared.jobs.Job.{Job}
 use Rattle.squeue_serve.specs.Places.{HasWorked, MayWork}
 use Rattle.shard_rings.specs.declared.pool.ShardPool.{ShardPool}
+use Rattle.shard_rings.specs.declared.run.RingTask.{RingTask}
 use Rattle.shard_rings.specs.declared.run.Task.{Task}
 use Rattle.shard_rings.specs.declared.run.Task.TheVariants.{Ring, Work}
+use Rattle.shard_rings.specs.Knowing.{Serves}
 use Rattle.shard_rings.specs.Tasks.{HasBrought, IsReady}
 
 -- rings may enter so
@@ -33,3 +35,13 @@ module _ {B R T : Type 0} (limits : R → Limits) (squeues : List (Named R)) whe
   abbrev pub HaveDone : (B → List (List T) → List (List T) → B → Type 0) → List (Job (Task B T)) → List (Job (Task B T)) → Type 0
   HaveDone Did old new = (k : ℕ) (d : Job (Task B T)) → k < length old
       → HasDone Did (slice_index_or old k d).task (slice_index_or old k d).places.items (slice_index_or new k d).task (slice_index_or new k d).places.items
+
+  -- each squeue serves so many rings
+  abbrev pub AllServe : ℕ → Type 0
+  AllServe count = (q p : ℕ) (s : Named R) → p < count → slice_get squeues q ≡ Some s → Serves limits s p
+
+  -- the ring of this number has brought by the passes that it was lent, and has become this, of what it was
+  pub record HasBroughtOf (Did : B → List (List T) → List (List T) → B → Type 0) (before : List (Task B T)) (lent : ℕ → List (Option (Pass Element))) (p : ℕ) (b : RingTask B T) : Type 0 where
+    pub a : RingTask B T
+    pub was : slice_get before p ≡ Some (Ring a)
+    pub brought : HasBrought limits squeues Did (lent p) a b

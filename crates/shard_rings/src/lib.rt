@@ -8,6 +8,7 @@
 
 mod bringing;
 mod cell;
+mod doing;
 mod ending;
 mod lanes;
 mod making;

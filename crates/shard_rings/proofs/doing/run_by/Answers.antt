@@ -4,7 +4,7 @@ use Rattle.shards.specs.Sharing.{limits_for}
 use Rattle.shard_rings.specs.Knowing.{came_of, sent_of}
 use Rattle.shard_rings.specs.Rows.{SameEnds}
 use Rattle.shard_rings.proofs.Beginning.{all_nothing, known_first, same_ends}
-use Rattle.shard_rings.proofs.run.run_by.Goals as goal
+use Rattle.shard_rings.proofs.doing.run_by.Goals as goal
 
 pub bring-requires-clause-ready : goal.bring-requires-clause-ready
 bring-requires-clause-ready g c =
