@@ -1,11 +1,11 @@
 -- What the jobs of a run have before, and have done.
-use Rattle.std.specs.Prelude.{◌≡◌, ℕ, Option, Some, List, [], length, map, slice_get}
+use Rattle.std.specs.Prelude.{◌≡◌, ℕ, Option, Some, List, [], ◌∷◌, length, map, slice_get}
 use Rattle.turn_gate.specs.Passes.{seen}
 use Rattle.turn_gate.specs.declared.pass.Pass.{Pass}
 use Rattle.perimeter_core.specs.History.{Element, Limits}
 use Rattle.perimeter_core.specs.Legal.{feeds_by}
 use Rattle.squeue_state.specs.Naming.{Named}
-use Rattle.squeue_serve.specs.Places.{AtEach, Holds, IsNew, MayEnd}
+use Rattle.squeue_serve.specs.Places.{AtEach, HasWorked, Holds, IsNew, MayEnd, MayWork}
 use Rattle.shard_rings.specs.declared.cell.Cell.{Cell}
 use Rattle.shard_rings.specs.declared.run.RingTask.{RingTask}
 use Rattle.shard_rings.specs.Knowing.{Serves, came_of, sent_of}
@@ -20,6 +20,15 @@ module _ {R : Type 0} (limits : R → Limits) where
   pub record HasFed (ring n : ℕ) (s : Named R) (p : Pass Element) : Type 0 where
     pub end : MayEnd limits ring s p
     pub fed : feeds_by ring (seen p) ≡ n
+
+  -- there is one pass, the worker's of the squeue of this number
+  abbrev pub MayWorkAt : List (Named R) → ℕ → List (Option (Pass Element)) → Type 0
+  MayWorkAt squeues q places = (s : Named R) × (x : Pass Element) × (slice_get squeues q ≡ Some s) × (places ≡ Some x ∷ []) × MayWork limits s x
+
+  -- and it has seen the end
+  abbrev pub HasWorkedAt : List (Named R) → ℕ → List (Option (Pass Element)) → List (Option (Pass Element)) → Type 0
+  HasWorkedAt squeues q old new =
+      (s : Named R) × (x : Pass Element) × (y : Pass Element) × (slice_get squeues q ≡ Some s) × (old ≡ Some x ∷ []) × (new ≡ Some y ∷ []) × HasWorked limits s x y
 
   module _ {B T : Type 0} (squeues : List (Named R)) where
     -- a ring has a new pass and a new cell of each squeue, and each serves it

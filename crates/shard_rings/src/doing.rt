@@ -4,13 +4,13 @@ ghost use Rattle.shards.specs.Sharing.{limits_for};
 ghost use Rattle.shard_rings.specs.Jobs.{HasDone, MayDo, MayEnter};
 ghost use Rattle.shard_rings.specs.Knowing.{came_of, sent_of};
 ghost use Rattle.shard_rings.specs.Rows.{AreKnown, SameEnds};
-ghost use Rattle.shard_rings.specs.Tasks.{HasBrought, IsReady};
+ghost use Rattle.shard_rings.specs.Tasks.{HasBrought, HasWorkedAt, IsReady, MayWorkAt};
 
 use crate::bringing::Brings;
 use crate::pool::ShardPool;
 use crate::ring::RingLanes;
 use crate::run::{RingTask, Task};
-use perimeter_core::{Known, NoHook};
+use perimeter_core::{Known, NoHook, Resident};
 use shards::{Shard, Shared};
 use squeue_serve::{Job, close_all, work};
 use squeue_state::{Pass, Squeue};
@@ -35,10 +35,24 @@ pub(crate) fn run_job<'a, X: Shared + Drop, B: Brings<Parcel = X::Parcel> + Drop
             job.task = Task::Ring(bring(&rt, alloc, pool, squeues, &mut job.places, ring));
         }
         Task::Work(q) => {
-            work(rt, alloc, &NoHook, &squeues[q as usize], &mut job.places[0]);
+            work_at(rt, alloc, squeues, q, &mut job.places);
             job.task = Task::Work(q);
         }
     }
+}
+
+// Works squeue number `q` to its end by the one pass.
+fn work_at<R: Resident, W: Wait>(
+    rt: &W,
+    alloc: Global,
+    squeues: &[Squeue<R>],
+    q: u32,
+    places: &mut Vec<Option<Pass>>,
+)
+    requires { MayWorkAt R.limits squeues.now q places.old.items }
+    ensures { HasWorkedAt R.limits squeues.now q places.old.items places.new.items }
+{
+    work(rt, alloc, &NoHook, &squeues[q as usize], &mut places[0]);
 }
 
 // Has a ring bring, and closes its passes.
