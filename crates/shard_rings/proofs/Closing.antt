@@ -39,11 +39,11 @@ module _ {R : Type 0} (limits : R → Limits) (s : Named R) (ring : ℕ) where
   closed_feeds p q pass closed =
       let e : Element = closed_by (number p) in
       let all : feeds_by (number p) (seen q) ≡ feeds_by (number p) closed.found + (if pass_of e.mark == number p then 0 else 0) = ap (feeds_by (number p)) closed.now_seen ∙ feeds_push (number p) closed.found e in
-      let none : (if pass_of e.mark == number p then 0 else 0) ≡ 0 = nothing (pass_of e.mark == number p) in
+      let none = nothing (pass_of e.mark == number p) in
       let same : feeds_by (number p) closed.found ≡ feeds_by (number p) (seen p) = own_feeds (number p) closed.found (seen p) (mine p) closed.own pass.2 in
       omega (arith, all, none, same)
     where
-      nothing : (b : Bool) → (if b then 0 else 0) ≡ 0
+      nothing : (b : Bool) → ◌≡◌ {A = ℕ} (if b then 0 else 0) 0
       nothing true = refl
       nothing false = refl
 

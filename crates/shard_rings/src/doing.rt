@@ -4,13 +4,13 @@ ghost use Rattle.shards.specs.Sharing.{limits_for};
 ghost use Rattle.shard_rings.specs.Jobs.{HasDone, MayDo, MayEnter};
 ghost use Rattle.shard_rings.specs.Knowing.{came_of, sent_of};
 ghost use Rattle.shard_rings.specs.Rows.{AreKnown, SameEnds};
-ghost use Rattle.shard_rings.specs.Tasks.{HasBrought, IsReady};
+ghost use Rattle.shard_rings.specs.Tasks.{HasBrought, HasWorkedAt, IsReady, MayWorkAt};
 
 use crate::bringing::Brings;
 use crate::pool::ShardPool;
 use crate::ring::RingLanes;
 use crate::run::{RingTask, Task};
-use perimeter_core::{Known, NoHook};
+use perimeter_core::{Known, NoHook, Resident};
 use shards::{Shard, Shared};
 use squeue_serve::{Job, close_all, work};
 use squeue_state::{Pass, Squeue};
@@ -19,11 +19,11 @@ use std::mem::replace;
 use std::sync::Wait;
 
 /// Does one job: a ring brings and closes its passes, or a squeue is worked to its end.
-pub(crate) fn run_job<X: Shared + Drop, B: Brings<Parcel = X::Parcel> + Drop, W: Wait>(
-    rt: &W,
+pub(crate) fn run_job<'a, X: Shared + Drop, B: Brings<Parcel = X::Parcel> + Drop, W: Wait>(
+    rt: &'a W,
     alloc: Global,
     pool: &ShardPool,
-    squeues: &[Squeue<Shard<X, &W>>],
+    squeues: &[Squeue<Shard<X, &'a W>>],
     job: &mut Job<Task<B, X::Parcel>>,
 )
     requires pool { MayEnter pool.now }
@@ -32,21 +32,35 @@ pub(crate) fn run_job<X: Shared + Drop, B: Brings<Parcel = X::Parcel> + Drop, W:
 {
     match replace(&mut job.task, Task::Work(0)) {
         Task::Ring(ring) => {
-            job.task = Task::Ring(bring(rt, alloc, pool, squeues, &mut job.places, ring));
+            job.task = Task::Ring(bring(&rt, alloc, pool, squeues, &mut job.places, ring));
         }
         Task::Work(q) => {
-            work(rt, alloc, &NoHook, &squeues[q as usize], &mut job.places[0]);
+            work_at(rt, alloc, squeues, q, &mut job.places);
             job.task = Task::Work(q);
         }
     }
 }
 
-// Has a ring bring, and closes its passes.
-fn bring<X: Shared + Drop, B: Brings<Parcel = X::Parcel> + Drop, W: Wait>(
+// Works squeue number `q` to its end by the one pass.
+fn work_at<R: Resident, W: Wait>(
     rt: &W,
     alloc: Global,
+    squeues: &[Squeue<R>],
+    q: u32,
+    places: &mut Vec<Option<Pass>>,
+)
+    requires { MayWorkAt R.limits squeues.now q places.old.items }
+    ensures { HasWorkedAt R.limits squeues.now q places.old.items places.new.items }
+{
+    work(rt, alloc, &NoHook, &squeues[q as usize], &mut places[0]);
+}
+
+// Has a ring bring, and closes its passes.
+fn bring<X: Shared + Drop, B: Brings<Parcel = X::Parcel> + Drop, H: Wait + Drop>(
+    rt: &H,
+    alloc: Global,
     pool: &ShardPool,
-    squeues: &[Squeue<Shard<X, &W>>],
+    squeues: &[Squeue<Shard<X, H>>],
     places: &mut Vec<Option<Pass>>,
     ring: RingTask<B, X::Parcel>,
 ) -> RingTask<B, X::Parcel>
@@ -63,11 +77,11 @@ fn bring<X: Shared + Drop, B: Brings<Parcel = X::Parcel> + Drop, W: Wait>(
 }
 
 // Has a ring bring by these passes, which it may close then.
-fn run_by<X: Shared + Drop, B: Brings<Parcel = X::Parcel> + Drop, W: Wait>(
-    rt: &W,
+fn run_by<X: Shared + Drop, B: Brings<Parcel = X::Parcel> + Drop, H: Wait + Drop>(
+    rt: &H,
     alloc: Global,
     pool: &ShardPool,
-    squeues: &[Squeue<Shard<X, &W>>],
+    squeues: &[Squeue<Shard<X, H>>],
     places: Vec<Option<Pass>>,
     ring: RingTask<B, X::Parcel>,
 ) -> (RingTask<B, X::Parcel>, Vec<Option<Pass>>)

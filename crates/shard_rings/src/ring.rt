@@ -20,8 +20,8 @@ pub(crate) const LIFE: u64 = 1 << 50;
 
 /// A ring's lanes while it brings: how it reaches the squeues, what it has of each, the same as it was first, for contracts alone, and its
 /// passes, by the squeues' numbers.
-pub(crate) struct RingLanes<'q, X: Shared + Drop, H: Wait + Drop, W: Wait> {
-    pub(crate) rt: &'q W,
+pub(crate) struct RingLanes<'q, X: Shared + Drop, H: Wait + Drop> {
+    pub(crate) rt: &'q H,
     pub(crate) squeues: &'q [Squeue<Shard<X, H>>],
     pub(crate) pool: ShardPool,
     pub(crate) ring: u32,
@@ -32,7 +32,7 @@ pub(crate) struct RingLanes<'q, X: Shared + Drop, H: Wait + Drop, W: Wait> {
     ghost spans: { (1 ≤ pool.span) × (pool.span ≤ 2 ^ 31) },
 }
 
-impl<'q, X: Shared + Drop, H: Wait + Drop, W: Wait> Lanes for RingLanes<'q, X, H, W> {
+impl<'q, X: Shared + Drop, H: Wait + Drop> Lanes for RingLanes<'q, X, H> {
     ghost use Rattle.std.specs.Prelude.{map};
 
     type Parcel = X::Parcel;

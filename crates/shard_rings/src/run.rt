@@ -208,15 +208,16 @@ where
 
 // Runs the jobs. Where not all squeues could be made, it ends what was made.
 fn run_or_end<
+    'a,
     X: Shared + Drop + Send,
     B: Brings<Parcel = X::Parcel> + Drop + Send,
     W: Threads + Wait + Sync,
 >(
-    rt: &W,
+    rt: &'a W,
     alloc: Global,
     pool: &ShardPool,
     made: &Result<(), AllocError>,
-    squeues: &[Squeue<Shard<X, &W>>],
+    squeues: &[Squeue<Shard<X, &'a W>>],
     count: u32,
     jobs: &mut Vec<Job<Task<B, X::Parcel>>>,
 )
@@ -241,14 +242,15 @@ where
 
 // Does all jobs beside each other. The workers stand last, so that no job waits for one behind it.
 fn run_all<
+    'a,
     X: Shared + Drop + Send,
     B: Brings<Parcel = X::Parcel> + Drop + Send,
     W: Threads + Wait + Sync,
 >(
-    rt: &W,
+    rt: &'a W,
     alloc: Global,
     pool: &ShardPool,
-    squeues: &[Squeue<Shard<X, &W>>],
+    squeues: &[Squeue<Shard<X, &'a W>>],
     jobs: &mut [Job<Task<B, X::Parcel>>],
 )
 where
