@@ -1,5 +1,5 @@
 use Rattle.std.proofs.Common.{◌≡◌, ◌≤◌, [], length, reverse, vec_capacity}
-use Rattle.shard_rings.proofs.Ending.{SoFar}
+use Rattle.shard_rings.proofs.Finishing.{SoFar}
 use Rattle.shard_rings.proofs.ending.finish_all.Given as goal
 
 abbrev pub invariant-squeues : goal.invariant-squeues
