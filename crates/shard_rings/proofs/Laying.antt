@@ -45,7 +45,7 @@ module _ {T : Type 0} where
   none_grown ends = record { count = refl; each = λ q c is. cc is; rest = λ q le. refl }
 
   -- and at the next squeue
-  pub one_grown : (cells : List (Cell T)) (old now : List (Vec (SqueueEnd T) Global)) (c : Cell T) (n : ℕ) (a b : Vec (SqueueEnd T) Global) → n ≡ length cells → slice_get now n ≡ Some a → IsGrown c a b → AreGrown cells old now
+  one_grown : (cells : List (Cell T)) (old now : List (Vec (SqueueEnd T) Global)) (c : Cell T) (n : ℕ) (a b : Vec (SqueueEnd T) Global) → n ≡ length cells → slice_get now n ≡ Some a → IsGrown c a b → AreGrown cells old now
       → AreGrown (cells ++ c ∷ []) old (slice_set now n b)
   one_grown cells old now c n a b here at grown are =
       record {
@@ -68,6 +68,11 @@ module _ {T : Type 0} where
           let first : slice_get old (length cells) ≡ Some a = sym (are.rest (length cells) (omega arith)) ∙ (ap (slice_get now) (sym here) ∙ at) in
           let new : slice_get (slice_set now n b) (length cells) ≡ Some b = ap (slice_get (slice_set now n b)) (sym here) ∙ get_same now n b (slice_get_within now n a at) in
           (a, b, first, new, grown)
+
+  pub next_grown : (cells more : List (Cell T)) (old now : List (Vec (SqueueEnd T) Global)) (c : Cell T) (n : ℕ) (a b : Vec (SqueueEnd T) Global) → more ≡ cells ++ c ∷ [] → n ≡ length cells → slice_get now n ≡ Some a → IsGrown c a b
+      → AreGrown cells old now → AreGrown more old (slice_set now n b) × (length more ≡ n + 1)
+  next_grown cells more old now c n a b is here at grown are =
+      (subst (λ (l : List (Cell T)). AreGrown l old (slice_set now n b)) (sym is) (one_grown cells old now c n a b here at grown are), (let e = ap length is ∙ length-append cells (c ∷ []) in omega (arith, e, here)))
 
   module _ (cells : List (Cell T)) (old new : List (Vec (SqueueEnd T) Global)) (all : length cells ≡ length old) (grown : AreGrown cells old new) where
     -- what one has of each squeue has grown by an end
