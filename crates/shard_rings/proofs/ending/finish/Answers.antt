@@ -45,3 +45,6 @@ cells-preserved g c =
       merged = took.merged i.merged;
       kept = c.pop.ensures.capacity ∙ i.kept;
     }
+
+pub returns-clause-finished : goal.returns-clause-finished
+returns-clause-finished g c = ?
