@@ -9,7 +9,7 @@ use Rattle.histories.specs.Limits.{most_ever}
 use Rattle.histories.specs.Quotas.{ask_quotas}
 use Rattle.histories.proofs.ListPlaces.{get_front, some_at}
 use Rattle.perimeter_core.specs.declared.entries.Act.{Act}
-use Rattle.perimeter_core.specs.declared.resident.Resident.{Ghosts as ResidentGhosts}
+use Rattle.perimeter_core.specs.Blocks.{Blocks}
 use Rattle.perimeter_core.specs.History.{Limits, Setting, feed_quotas, start}
 use Rattle.perimeter_core.specs.Perimeter.{is_here}
 use Rattle.placed_parts.specs.Standing.{all_new}
@@ -138,15 +138,15 @@ all_true (x ∷ xs) (suc n) same each =
     let rest = all_true xs n (omega (arith, same)) (λ c lt. each (suc c) (omega (arith, lt))) in
     rw (first, rest) refl
 
-module _ {R P O : Type 0} (G : ResidentGhosts R P O) (rings : ℕ) where
+module _ {R : Type 0} (stands_for : R → Blocks → Type 0) (size_of : R → ℕ) (limits_of : R → Limits) (rings : ℕ) where
   -- the squeue that was made of a resident for so many rings
-  pub is_made_of : (q room : ℕ) (r : R) (quotas : List (ℕ × ℕ)) (s : Named R) → quotas ≡ replicate rings life → G.stands r (all_new rings) → G.size r ≡ rings → G.limits r ≡ ring_limits rings
-      → IsMade G.stands G.size q rings quotas false room r s.given → IsMadeOf G.limits rings q r s
+  pub is_made_of : (q room : ℕ) (r : R) (quotas : List (ℕ × ℕ)) (s : Named R) → quotas ≡ replicate rings life → stands_for r (all_new rings) → size_of r ≡ rings → limits_of r ≡ ring_limits rings
+      → IsMade stands_for size_of q rings quotas false room r s.given → IsMadeOf limits_of rings q r s
   is_made_of q room r quotas s are stands size limits made =
       record {
         number = made.its_number;
         first = made.its_first;
-        setting = λ k. record { rings = made.its_rings k; quotas = (made.its_quotas ∙ are) k; starts = started k; limits = (ap G.limits made.its_first ∙ limits) k };
+        setting = λ k. record { rings = made.its_rings k; quotas = (made.its_quotas ∙ are) k; starts = started k; limits = (ap limits_of made.its_first ∙ limits) k };
       }
     where
       started : s.given.starts ≡ replicate rings true

@@ -101,7 +101,7 @@ residents-preserved g c =
     let so = next limits_for c.args.rings all c.residents.residents.items c.pop.new.self.items first c.in-Some.ensures.items ss i.made in
     let at = next_at limits_for c.args.rings all c.residents.residents.items c.pop.new.self.items first c.in-Some.ensures.items ss i.made in
     let stands = all_at (λ r. StandsFor r (all_new c.args.rings) × (rings_of r ≡ c.args.rings) × (limits_for r ≡ ring_limits c.args.rings)) all (length ss) first c.requires.residents at in
-    let made = is_made_of _ c.args.rings c.len-number.result _ first (ever c.deref.result.now) s quotas stands.0 stands.1 stands.2 c.in_ok-squeue.ensures.given in
+    let made = is_made_of StandsFor rings_of limits_for c.args.rings c.len-number.result _ first (ever c.deref.result.now) s quotas stands.0 stands.1 stands.2 c.in_ok-squeue.ensures.given in
     let counted : length s.given.quotas ≡ c.args.rings = ap length (c.in_ok-squeue.ensures.given.its_quotas ∙ quotas) ∙ length-replicate c.args.rings life in
     record {
       made = subst (λ l. SoFar limits_for c.args.rings all left l) (sym c.lend.ensures.squeues)
@@ -120,3 +120,7 @@ pub returns-clause-made : goal.returns-clause-made
 returns-clause-made g c =
     let empty : c.residents.residents.items ≡ [] = search rules in
     all_made limits_for c.args.rings c.args.residents.items (reverse c.residents.residents.items) c.residents.squeues.all.items (ap reverse empty) c.residents.invariant.made
+
+pub returns-in_err-lives-clause-lent : goal.returns-in_err-lives-clause-lent
+returns-in_err-lives-clause-lent g c =
+    subst (λ l. AreLent IsNew 0 c.args.rings l (lent_to c.args.jobs.now.items)) (sym c.requires.empty.0) (none_yet 0 c.args.rings c.args.jobs.now.items c.requires.places.0)
