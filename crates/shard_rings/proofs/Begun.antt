@@ -1,7 +1,8 @@
 -- What a run that has begun gives its parts.
-use Rattle.std.proofs.Common.{◌≡◌, ℕ, zero, suc, ◌+◌, ◌*◌, ◌<◌, ◌≤◌, All, Some, List, [], ◌∷◌, length, map, slice_get, refl, ap, sym, ◌∙◌, subst, arith}
+use Rattle.std.proofs.Common.{◌≡◌, ℕ, zero, suc, ◌+◌, ◌*◌, ◌<◌, ◌≤◌, All, Option, Some, List, [], ◌∷◌, length, map, slice_get, refl, ap, sym, ◌∙◌, subst, arith}
 use Rattle.std.proofs.lemmas.List.{length-map}
-use Rattle.perimeter_core.specs.History.{Limits}
+use Rattle.turn_gate.specs.declared.pass.Pass.{Pass}
+use Rattle.perimeter_core.specs.History.{Element, Limits}
 use Rattle.placed_parts.specs.Standing.{all_new}
 use Rattle.squeue_state.specs.Naming.{Named}
 use Rattle.squeue_serve.specs.declared.jobs.Job.{Job}
@@ -13,7 +14,7 @@ use Rattle.shards.specs.Sharing.{StandsFor, limits_for, rings_of}
 use Rattle.shard_rings.specs.declared.run.RingTask.{RingTask}
 use Rattle.shard_rings.specs.declared.run.Task.{Task}
 use Rattle.shard_rings.specs.Columns.{rings_in}
-use Rattle.shard_rings.specs.Jobs.{AllServe}
+use Rattle.shard_rings.specs.Jobs.{AllServe, HasBroughtOf}
 use Rattle.shard_rings.specs.Making.{AreMadeOf, AreTasks, HasBegun, IsLaid, IsNewRing}
 use Rattle.shard_rings.proofs.Apart.{rings_are}
 use Rattle.shard_rings.proofs.Finishing.{at_all}
@@ -50,3 +51,11 @@ module _ {X H T O B : Type 0} {G : Ghosts X T O} (count : ℕ) (shared : List X)
   -- and each squeue that was made serves them
   pub they_serve : (limits : Shard X H T O G → Limits) (ss : List (Named (Shard X H T O G))) → AreMadeOf limits count residents ss → AllServe limits ss count × AreTasks count (length ss) (IsNewRing (length ss)) tasks
   they_serve limits ss made = (all_serve limits count residents ss made, new_rings (length ss) (made.count ∙ many_residents))
+
+-- the same of equal lists
+pub moved : {B R T : Type 0} (limits : R → Limits) (Did : B → List (List T) → List (List T) → B → Type 0) (count : ℕ) (ss ss' : List (Named R)) (first first' tasks tasks' : List (Task B T)) (lent : ℕ → List (Option (Pass Element))) → ss' ≡ ss → first' ≡ first
+    → tasks ≡ tasks' → AreTasks count (length ss') (HasBroughtOf limits ss' Did first' lent) tasks' → AreTasks count (length ss) (HasBroughtOf limits ss Did first lent) tasks
+moved {B = B} {R = R} {T = T} limits Did count ss ss' first first' tasks tasks' lent a b e are =
+    subst (λ (l : List (Named R)). AreTasks count (length l) (HasBroughtOf limits l Did first lent) tasks) a
+    (subst (λ (f : List (Task B T)). AreTasks count (length ss') (HasBroughtOf limits ss' Did f lent) tasks) b
+    (subst (λ (t : List (Task B T)). AreTasks count (length ss') (HasBroughtOf limits ss' Did first' lent) t) (sym e) are))
