@@ -1,4 +1,4 @@
-use Rattle.std.proofs.Common.{◌≡◌, ◌+◌, ◌*◌, ◌≤◌, [], List, IfOk, length, map, reverse, refl, ap, sym, ◌∙◌, subst, arith}
+use Rattle.std.proofs.Common.{◌≡◌, ◌+◌, ◌*◌, ◌≤◌, [], All, List, IfOk, length, map, reverse, refl, ap, sym, ◌∙◌, subst, arith}
 use Rattle.std.proofs.lemmas.List.{length-map}
 use Rattle.std.proofs.lemmas.Result.{IfOk-weaker}
 use Rattle.squeue_serve.specs.Lending.{AreLent, lent_to, tasks_in}
@@ -77,3 +77,54 @@ take_apart-requires-clause-room g c =
     let a = c.requires.room.bringers.1 in
     let b = c.requires.room.rows.1 in
     (omega (arith, n, a), omega (arith, n, b))
+
+pub finish_all-served-requires-clause-rows : goal.finish_all-served-requires-clause-rows
+finish_all-served-requires-clause-rows g c =
+    let b = c.requires.begun in
+    let count = c.args.count in
+    let ss = c.make_all-made.new.squeues.all.items in
+    let vs = reverse c.gather.new.left.items in
+    let lent = lent_to c.run_or_end.new.jobs.items in
+    let first = tasks_in c.args.means.jobs.items in
+    let tasks = tasks_in c.gather.new.jobs.items in
+    let made = from_ok (λ _. AreMadeOf limits_for count c.args.residents.items ss) c.make_all-made.result c.in_ok-made.field-0 c.in_ok-made.was c.make_all-made.ensures.made in
+    let done = from_ok
+    (λ _. AreTasks count (length c.as_slice.result.now) (HasBroughtOf limits_for c.as_slice.result.now g.B.Brings.did (tasks_in c.make_all-made.new.jobs.items) lent) (tasks_in c.run_or_end.new.jobs.items))
+    c.make_all-made.result c.in_ok-made.field-0 c.in_ok-made.was c.run_or_end.ensures.done in
+    let after = moved limits_for g.B.Brings.did count ss c.as_slice.result.now first (tasks_in c.make_all-made.new.jobs.items) tasks (tasks_in c.run_or_end.new.jobs.items) lent c.as_slice.ensures.value c.make_all-made.ensures.tasks c.gather.ensures.tasks done in
+    subst (λ l. All (λ row. length row.items ≡ length l) c.take_apart.result.rows.items) (sym c.reverse.ensures.items)
+    (rows_full _ g.B.Brings.did (λ r k h. h.1) (λ r t e. e) count b.0 b.1 c.args.residents.items first tasks b.2 ss made lent after vs c.gather.ensures.left c.take_apart.result.rows.items c.take_apart.ensures.rows)
+
+pub finish_all-served-requires-clause-may : goal.finish_all-served-requires-clause-may
+finish_all-served-requires-clause-may g c =
+    let b = c.requires.begun in
+    let count = c.args.count in
+    let ss = c.make_all-made.new.squeues.all.items in
+    let vs = reverse c.gather.new.left.items in
+    let lent = lent_to c.run_or_end.new.jobs.items in
+    let first = tasks_in c.args.means.jobs.items in
+    let tasks = tasks_in c.gather.new.jobs.items in
+    let made = from_ok (λ _. AreMadeOf limits_for count c.args.residents.items ss) c.make_all-made.result c.in_ok-made.field-0 c.in_ok-made.was c.make_all-made.ensures.made in
+    let done = from_ok
+    (λ _. AreTasks count (length c.as_slice.result.now) (HasBroughtOf limits_for c.as_slice.result.now g.B.Brings.did (tasks_in c.make_all-made.new.jobs.items) lent) (tasks_in c.run_or_end.new.jobs.items))
+    c.make_all-made.result c.in_ok-made.field-0 c.in_ok-made.was c.run_or_end.ensures.done in
+    let after = moved limits_for g.B.Brings.did count ss c.as_slice.result.now first (tasks_in c.make_all-made.new.jobs.items) tasks (tasks_in c.run_or_end.new.jobs.items) lent c.as_slice.ensures.value c.make_all-made.ensures.tasks c.gather.ensures.tasks done in
+    subst (MayFinishAll c.take_apart.result.rows.items) (sym c.reverse.ensures.items)
+    (may_finish _ g.B.Brings.did (λ r k h. h.1) (λ r t e. e) count b.0 b.1 c.args.residents.items first tasks b.2 ss made lent after vs c.gather.ensures.left c.take_apart.result.rows.items c.take_apart.ensures.rows)
+
+pub returns : goal.returns
+returns g c shared before begun =
+    let count = c.args.count in
+    let ss = c.make_all-made.new.squeues.all.items in
+    let vs = reverse c.gather.new.left.items in
+    let lent = lent_to c.run_or_end.new.jobs.items in
+    let first = tasks_in c.args.means.jobs.items in
+    let tasks = tasks_in c.gather.new.jobs.items in
+    let made = from_ok (λ _. AreMadeOf limits_for count c.args.residents.items ss) c.make_all-made.result c.in_ok-made.field-0 c.in_ok-made.was c.make_all-made.ensures.made in
+    let done = from_ok
+    (λ _. AreTasks count (length c.as_slice.result.now) (HasBroughtOf limits_for c.as_slice.result.now g.B.Brings.did (tasks_in c.make_all-made.new.jobs.items) lent) (tasks_in c.run_or_end.new.jobs.items))
+    c.make_all-made.result c.in_ok-made.field-0 c.in_ok-made.was c.run_or_end.ensures.done in
+    let after = moved limits_for g.B.Brings.did count ss c.as_slice.result.now first (tasks_in c.make_all-made.new.jobs.items) tasks (tasks_in c.run_or_end.new.jobs.items) lent c.as_slice.ensures.value c.make_all-made.ensures.tasks c.gather.ensures.tasks done in
+    let ended = subst (λ l. AreEnded c.take_apart.result.rows.items l c.finish_all-served.result.items) c.reverse.ensures.items c.finish_all-served.ensures in
+    has_run _ g.B.Brings.did (λ r k h. h.1) (λ r t e. e) count shared before c.args.residents.items first tasks begun ss made lent after vs c.gather.ensures.left c.take_apart.result.rows.items c.take_apart.ensures.rows
+    c.take_apart.result.rings.items c.take_apart.ensures.rings c.finish_all-served.result.items ended
