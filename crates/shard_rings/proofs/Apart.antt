@@ -43,40 +43,37 @@ module _ {B T : Type 0} where
       ∙ (ap (λ l. length (rings_in l)) (map-append (λ (k : Job (Task B T)). k.task) left (j ∷ []))
       ∙ (ap length (rings-append (tasks_in left) (j.task ∷ [])) ∙ length-append (rings_in (tasks_in left)) (rings_in (j.task ∷ []))))
 
-  no_rings : (tasks : List (Task B T)) (squeues : ℕ) → length tasks ≡ squeues → ((q : ℕ) → q < squeues → slice_get tasks q ≡ Some (Work q)) → rings_in tasks ≡ []
-  no_rings tasks squeues all works = go tasks 0 (λ q lt. works q (omega (arith, lt, all)))
-    where
-      go : (ts : List (Task B T)) (n : ℕ) → ((q : ℕ) → q < length ts → slice_get ts q ≡ Some (Work (n + q))) → rings_in ts ≡ []
-      go [] n each = refl
-      go (Ring a ∷ ts) n each = absurd (let e = each 0 (omega arith) in cc e)
-      go (Work q ∷ ts) n each =
-          go ts (n + 1) (λ k lt. (let e : n + suc k ≡ (n + 1) + k = omega arith in each (suc k) (omega (arith, lt)) ∙ ap (λ (m : ℕ). Some (Work m)) e))
+  no_rings : (tasks : List (Task B T)) (n : ℕ) → ((q : ℕ) → q < length tasks → slice_get tasks q ≡ Some (Work (n + q))) → rings_in tasks ≡ []
+  no_rings [] n each = refl
+  no_rings (Ring a ∷ tasks) n each = absurd (let e = each 0 (omega arith) in cc e)
+  no_rings (Work q ∷ tasks) n each =
+      no_rings tasks (n + 1) (λ k lt. (let e : n + suc k ≡ (n + 1) + k = omega arith in each (suc k) (omega (arith, lt)) ∙ ap (λ (m : ℕ). Some (Work m)) e))
+
+  tail : (count squeues : ℕ) (P : ℕ → RingTask B T → Type 0) (a : Task B T) (tasks : List (Task B T)) → AreTasks (suc count) squeues P (a ∷ tasks) → AreTasks count squeues (λ p t. P (suc p) t) tasks
+  tail count squeues P a tasks are =
+      record {
+        many = let n = are.many in omega (arith, n);
+        rings = λ p lt. are.rings (suc p) (omega (arith, lt));
+        works = λ q lt. (let e : suc (count + q) ≡ suc count + q = omega arith in ap (slice_get (a ∷ tasks)) e ∙ are.works q lt);
+      }
+
+  ring_each : (P : ℕ → RingTask B T → Type 0) (a : RingTask B T) (tasks : List (Task B T)) → P 0 a → ((p : ℕ) (t : RingTask B T) → slice_get (rings_in tasks) p ≡ Some t → (slice_get tasks p ≡ Some (Ring t)) × P (suc p) t)
+      → (p : ℕ) (t : RingTask B T) → slice_get (a ∷ rings_in tasks) p ≡ Some t → (slice_get (Ring a ∷ tasks) p ≡ Some (Ring t)) × P p t
+  ring_each P a tasks here rest zero t at = let one : a ≡ t = cc at in (ap (λ (b : RingTask B T). Some (Ring b)) one, subst (P 0) one here)
+  ring_each P a tasks here rest (suc p) t at = rest p t at
+
+  first_ring : (P : ℕ → RingTask B T → Type 0) (a : RingTask B T) (tasks : List (Task B T)) → (t : RingTask B T) × (slice_get (Ring a ∷ tasks) 0 ≡ Some (Ring t)) × P 0 t → P 0 a
+  first_ring P a tasks h = let i = h.1 in let one : h.0 ≡ a = cc (sym i) in subst (P 0) one h.2
 
   -- the rings' tasks, by number
   pub rings_are : (count squeues : ℕ) (P : ℕ → RingTask B T → Type 0) (tasks : List (Task B T)) → AreTasks count squeues P tasks
       → (length (rings_in tasks) ≡ count) × ((p : ℕ) (t : RingTask B T) → slice_get (rings_in tasks) p ≡ Some t → (slice_get tasks p ≡ Some (Ring t)) × P p t)
   rings_are zero squeues P tasks are =
-      let none = no_rings tasks squeues are.many (λ q lt. (let e : 0 + q ≡ q = omega arith in ap (slice_get tasks) (sym e) ∙ are.works q lt)) in
+      let n = are.many in
+      let none = no_rings tasks 0 (λ q lt. (let e : q ≡ 0 + q = omega arith in ap (slice_get tasks) e ∙ (are.works q (omega (arith, lt, n)) ∙ ap (λ (m : ℕ). Some (Work m)) e))) in
       (ap length none, λ p t at. cc (sym (ap (λ l. slice_get l p) none) ∙ at))
   rings_are (suc count) squeues P [] are = absurd (let n = are.many in omega (arith, n))
   rings_are (suc count) squeues P (Work q ∷ tasks) are = absurd (let h = are.rings 0 (omega arith) in let e = h.1 in cc e)
-  rings_are (suc count) squeues P (Ring a ∷ tasks) are = (ap suc rest.0, each)
-    where
-      tail : AreTasks count squeues (λ p t. P (suc p) t) tasks
-      tail = record {
-        many = let n = are.many in omega (arith, n);
-        rings = λ p lt. are.rings (suc p) (omega (arith, lt));
-        works = λ q lt. (let e : suc (count + q) ≡ suc count + q = omega arith in ap (slice_get (Ring a ∷ tasks)) e ∙ are.works q lt);
-      }
-
-      rest : (length (rings_in tasks) ≡ count) × ((p : ℕ) (t : RingTask B T) → slice_get (rings_in tasks) p ≡ Some t → (slice_get tasks p ≡ Some (Ring t)) × P (suc p) t)
-      rest = rings_are count squeues (λ p t. P (suc p) t) tasks tail
-
-      each : (p : ℕ) (t : RingTask B T) → slice_get (a ∷ rings_in tasks) p ≡ Some t → (slice_get (Ring a ∷ tasks) p ≡ Some (Ring t)) × P p t
-      each zero t at =
-          let h = are.rings 0 (omega arith) in
-          let i = h.1 in
-          let one : a ≡ t = cc at in
-          let two : h.0 ≡ a = cc (sym i) in
-          (ap (λ (b : RingTask B T). Some (Ring b)) one, subst (P 0) (two ∙ one) h.2)
-      each (suc p) t at = rest.1 p t at
+  rings_are (suc count) squeues P (Ring a ∷ tasks) are =
+      let rest = rings_are count squeues (λ p t. P (suc p) t) tasks (tail count squeues P (Ring a) tasks are) in
+      (ap suc rest.0, ring_each P a tasks (first_ring P a tasks (are.rings 0 (omega arith))) rest.1)

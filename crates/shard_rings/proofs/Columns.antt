@@ -6,6 +6,7 @@ use Rattle.std.proofs.lemmas.Bool.{eqb-true, eq-eqb}
 use Rattle.std.proofs.lemmas.List.{length-map}
 use Rattle.std.proofs.lemmas.Option.{slice_get_within}
 use mathlib.Core.List.{IsPrefix}
+use Rattle.histories.proofs.ListPlaces.{from_map}
 use Rattle.rtrb.specs.Ring.{received, sent}
 use Rattle.shards.specs.declared.lanes.SqueueEnd.{SqueueEnd}
 use Rattle.shards.specs.Mixing.{IsMix, from_ring}
@@ -100,16 +101,11 @@ module _ {T : Type 0} where
   only_came n [] all = tt
   only_came n (e ∷ log) all = (all.0, only_came n log all.1)
 
-  map_at : {A B : Type 0} (f : A → B) (xs : List A) (p : ℕ) (y : B) → slice_get (map f xs) p ≡ Some y → (x : A) × (slice_get xs p ≡ Some x) × (f x ≡ y)
-  map_at f [] p y is = absurd (cc is)
-  map_at f (x ∷ xs) zero y is = (x, refl, cc is)
-  map_at f (x ∷ xs) (suc p) y is = map_at f xs p y is
-
   -- the log is a mix of what the rings sent
   pub is_mix : (column : List (Cell T)) (log : List (ℕ × (T × T))) → ((p : ℕ) (c : Cell T) → slice_get column p ≡ Some c → came_from p log ≡ sent_of c) → AllByRecursion (λ (e : ℕ × (T × T)). e.0 < length column) log
       → IsMix (map sent_of column) (as_came log)
   is_mix column log each only =
       record {
-        each = λ p its at. (let c = map_at sent_of column p its at in as_came_from p log ∙ (each p c.0 c.1 ∙ c.2));
+        each = λ p its at. (let c = from_map sent_of column p its at in as_came_from p log ∙ (each p c.0 c.1 ∙ c.2));
         only = subst (λ (n : ℕ). AllByRecursion (λ (e : ℕ × T). e.0 < n) (as_came log)) (sym (length-map column sent_of)) (only_came (length column) log only);
       }

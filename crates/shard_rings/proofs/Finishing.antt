@@ -27,6 +27,9 @@ all_at P xs k x all at = subst P (got_or xs k x x at) (all k x (slice_get_within
 pub at_all : {A : Type 0} (P : A → Type 0) (xs : List A) → ((k : ℕ) (x : A) → slice_get xs k ≡ Some x → P x) → All P xs
 at_all P xs each k d lt = let h = some_at xs k lt in subst P (sym (got_or xs k h.0 d h.1)) (each k h.0 h.1)
 
+pub all_before : {A : Type 0} (P : A → Type 0) (xs rest : List A) (x : A) → xs ≡ rest ++ x ∷ [] → All P xs → All P rest
+all_before P xs rest x split all = at_all P rest (λ k y at. all_at P xs k y all (ap (λ l. slice_get l k) split ∙ get_front rest (x ∷ []) k y at))
+
 -- what is so of the last ones, by number, and of the one before them
 pub behind : {A : Type 0} (P : ℕ → A → Type 0) (n m : ℕ) (x : A) (xs : List A) → n ≡ m + 1 → P m x → ((i : ℕ) (y : A) → slice_get xs i ≡ Some y → P (n + i) y) → (i : ℕ) (y : A) → slice_get (x ∷ xs) i ≡ Some y → P (m + i) y
 behind P n m x xs next here each zero y at = let e : m ≡ m + 0 = omega arith in subst (λ k. P k y) e (subst (P m) (is_some_of at) here)

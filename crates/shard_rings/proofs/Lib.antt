@@ -1,5 +1,6 @@
 pub mod Apart
 pub mod Beginning
+pub mod Begun
 pub mod Closing
 pub mod Columns
 pub mod Finishing

@@ -1,17 +1,20 @@
 -- Residents and squeues, made one after another.
-use Rattle.std.proofs.Common.{◌≡◌, ℕ, zero, suc, ◌+◌, ◌*◌, ◌%◌, ◌^◌, ◌-◌, ◌<◌, ◌≤◌, Bool, true, false, Option, Some, None, List, [], ◌∷◌, ◌++◌, All, Vec, Global, is_some, if◌then◌else◌, length, length-append, append_assoc, map, replicate, slice_get, slice_index_or, refl, ap, sym, ◌∙◌, subst, arith}
+use Rattle.std.proofs.Common.{◌≡◌, ℕ, zero, suc, ◌+◌, ◌*◌, ◌%◌, ◌^◌, ◌-◌, ◌<◌, ◌≤◌, Bool, true, false, Option, Some, None, List, [], ◌∷◌, ◌++◌, All, Vec, Global, is_some, if◌then◌else◌, length, length-append, append_assoc, map, replicate, reverse, slice_get, slice_index_or, refl, ap, sym, ◌∙◌, subst, arith}
 use Rattle.std.specs.Prelude.{nat_lt, slice_index}
 use Rattle.std.proofs.Math.Nat.{mod-eq_of_lt}
 use Rattle.std.proofs.lemmas.Bool.Decides.{nat_tests}
-use Rattle.std.proofs.lemmas.List.{get_or-replicate, length-replicate}
+use Rattle.std.proofs.lemmas.List.{get_or-replicate, length-map, length-replicate, reverse-append}
 use Rattle.std.proofs.lemmas.Option.{slice_get_within}
+use Rattle.histories.specs.Limits.{most_ever}
 use Rattle.histories.specs.Quotas.{ask_quotas}
 use Rattle.histories.proofs.ListPlaces.{get_front, some_at}
 use Rattle.perimeter_core.specs.declared.entries.Act.{Act}
-use Rattle.perimeter_core.specs.declared.resident.Resident.{Ghosts as Residing}
+use Rattle.perimeter_core.specs.Blocks.{Blocks}
 use Rattle.perimeter_core.specs.History.{Limits, Setting, feed_quotas, start}
 use Rattle.perimeter_core.specs.Perimeter.{is_here}
 use Rattle.placed_parts.specs.Standing.{all_new}
+use Rattle.squeue_state.specs.Behind.{ever}
+use Rattle.squeue_state.specs.declared.guarded.Life.{Life}
 use Rattle.squeue_state.specs.Clauses.{IsMade, StandsEmpty}
 use Rattle.squeue_state.specs.Naming.{Named, setting_of}
 use Rattle.squeue_serve.proofs.Lent.{get_end}
@@ -108,11 +111,11 @@ module _ {X H T O : Type 0} {G : Ghosts X T O} where
 
 -- the sums of equal quotas
 pub feeds_of : (n a b : ℕ) → feed_quotas (replicate n (a, b)) ≡ n * a
-feeds_of zero a b = refl
+feeds_of zero a b = let z : 0 * a ≡ 0 = omega arith in sym z
 feeds_of (suc n) a b = let r = feeds_of n a b in let e : suc n * a ≡ a + n * a = omega arith in ap (λ k. a + k) r ∙ sym e
 
 pub asks_of : (n a b : ℕ) → ask_quotas (replicate n (a, b)) ≡ n * b
-asks_of zero a b = refl
+asks_of zero a b = let z : 0 * b ≡ 0 = omega arith in sym z
 asks_of (suc n) a b = let r = asks_of n a b in let e : suc n * b ≡ b + n * b = omega arith in ap (λ k. b + k) r ∙ sym e
 
 -- all connections are here at first
@@ -135,15 +138,15 @@ all_true (x ∷ xs) (suc n) same each =
     let rest = all_true xs n (omega (arith, same)) (λ c lt. each (suc c) (omega (arith, lt))) in
     rw (first, rest) refl
 
-module _ {R P O : Type 0} (G : Residing R P O) (rings : ℕ) where
+module _ {R : Type 0} (stands_for : R → Blocks → Type 0) (size_of : R → ℕ) (limits_of : R → Limits) (rings : ℕ) where
   -- the squeue that was made of a resident for so many rings
-  pub is_made_of : (q room : ℕ) (r : R) (quotas : List (ℕ × ℕ)) (s : Named R) → quotas ≡ replicate rings life → G.stands r (all_new rings) → G.size r ≡ rings → G.limits r ≡ ring_limits rings
-      → IsMade G.stands G.size q rings quotas false room r s.given → IsMadeOf G.limits rings q r s
+  pub is_made_of : (q room : ℕ) (r : R) (quotas : List (ℕ × ℕ)) (s : Named R) → quotas ≡ replicate rings life → stands_for r (all_new rings) → size_of r ≡ rings → limits_of r ≡ ring_limits rings
+      → IsMade stands_for size_of q rings quotas false room r s.given → IsMadeOf limits_of rings q r s
   is_made_of q room r quotas s are stands size limits made =
       record {
         number = made.its_number;
         first = made.its_first;
-        setting = λ k. record { rings = made.its_rings k; quotas = (made.its_quotas ∙ are) k; starts = started k; limits = (ap G.limits made.its_first ∙ limits) k };
+        setting = λ k. record { rings = made.its_rings k; quotas = (made.its_quotas ∙ are) k; starts = started k; limits = (ap limits_of made.its_first ∙ limits) k };
       }
     where
       started : s.given.starts ≡ replicate rings true
@@ -198,3 +201,23 @@ module _ {R : Type 0} (limits : R → Limits) (rings : ℕ) (residents : List R)
     where
       set : setting_of limits s.given ≡ setting_for rings
       set = (made.each q s at).2.setting
+
+-- so many lives
+pub lives_count : (lives : List Life) (n : ℕ) → ever lives ≡ replicate n life → length lives ≡ n
+lives_count lives n are = sym (length-map lives (λ l. (l.feeds, l.asks))) ∙ (ap length are ∙ length-replicate n life)
+
+pub few_feeds : (lives : List Life) (n : ℕ) → ever lives ≡ replicate n life → n ≤ 63 → feed_quotas (ever lives) ≤ most_ever
+few_feeds lives n are few = let e = ap feed_quotas are ∙ feeds_of n (2 ^ 50) (2 ^ 52) in omega (arith, e, few)
+
+pub few_asks : (lives : List Life) (n : ℕ) → ever lives ≡ replicate n life → n ≤ 63 → ask_quotas (ever lives) ≤ most_ever
+few_asks lives n are few = let e = ap ask_quotas are ∙ asks_of n (2 ^ 50) (2 ^ 52) in omega (arith, e, few)
+
+module _ {R : Type 0} (limits : R → Limits) (rings : ℕ) (all : List R) (now rest : List R) (r : R) (split : now ≡ rest ++ r ∷ []) (ss : List (Named R)) (so : SoFar limits rings all (reverse now) ss) where
+  pub next : SoFar limits rings all (r ∷ reverse rest) ss
+  next = subst (λ (l : List R). SoFar limits rings all l ss) (ap reverse split ∙ reverse-append rest (r ∷ [])) so
+
+  pub next_at : slice_get all (length ss) ≡ Some r
+  next_at = resident_at limits rings all (reverse rest) r ss next
+
+  pub next_few : length ss < length all
+  next_few = slice_get_within all (length ss) r next_at

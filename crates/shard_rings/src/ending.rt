@@ -86,9 +86,9 @@ fn keep<B: Drop, P: Drop>(brought: &mut Brought<B, P>, task: Task<B, P>)
 }
 
 /// What the rings shared at each squeue, by number, when it has taken all parcels that were sent there. The rows have each ring's cells.
-pub(crate) fn finish_all<X: Shared + Drop, W: Wait>(
+pub(crate) fn finish_all<X: Shared + Drop, H: Wait + Drop>(
     alloc: Global,
-    left: Vec<Left<Shard<X, &W>>>,
+    left: Vec<Left<Shard<X, H>>>,
     rows: Vec<Vec<Cell<X::Parcel>>>,
     column: Vec<Cell<X::Parcel>>,
     room: Vec<ServedShard<X>>,
@@ -142,9 +142,9 @@ fn take_cell<P: Drop>(row: &mut Vec<Cell<P>>) -> Cell<P>
 }
 
 // What the rings shared, when it has taken all that they sent by these cells, the last ring's first. No cell is left.
-fn finish<X: Shared + Drop, W: Wait>(
+fn finish<X: Shared + Drop, H: Wait + Drop>(
     alloc: Global,
-    shard: Shard<X, &W>,
+    shard: Shard<X, H>,
     column: &mut Vec<Cell<X::Parcel>>,
 ) -> X
     requires lanes { AreLanes column.old.items (ends_of shard) }

@@ -126,13 +126,13 @@ pub(crate) fn residents_of<'a, X: Shared + Drop, W: Wait>(
 }
 
 /// Makes the squeues of these residents, and lends their passes to the jobs. An error leaves those that were made.
-pub(crate) fn make_all<'a, X: Shared + Drop, W: Wait, B: Drop>(
+pub(crate) fn make_all<X: Shared + Drop, H: Wait + Drop, B: Drop>(
     alloc: Global,
     room: u32,
     rings: u32,
-    residents: Vec<Shard<X, &'a W>>,
+    residents: Vec<Shard<X, H>>,
     jobs: &mut Vec<Job<Task<B, X::Parcel>>>,
-    squeues: &mut Squeues<Shard<X, &'a W>>,
+    squeues: &mut Squeues<Shard<X, H>>,
 ) -> Result<(), AllocError>
     requires rings { (1 ≤ rings) × (rings ≤ most_quotas) }
     requires room { (1 ≤ room) × (room ≤ most_feeds) }

@@ -163,7 +163,7 @@ where
     requires squeues { (means.squeues.all.items ≡ []) × (means.squeues.rooms.items ≡ []) }
     requires capacity { (length residents.items ≤ vec_capacity means.squeues.all) × (length residents.items ≤ vec_capacity means.squeues.rooms) }
     requires room { HasRoom count (length residents.items) means.room }
-    ensures { (shared : List X.Self) (before : List B.Self) → HasBegun count shared before residents.items (tasks_in means.jobs.items)
+    ensures { (shared : List X.Self) (before : List B.Self) → HasBegun count shared before residents.entry.items (tasks_in means.entry.jobs.items)
         → IfOk result (λ r. HasRun X.Shared B.did shared before r.0.items r.1.items) }
 {
     let Means {

@@ -1,4 +1,4 @@
-use Rattle.std.proofs.Common.{◌≡◌, ◌<◌, ◌^◌, [], ◌∷◌, length, length-append, slice_get, refl, ap, sym, ◌∙◌, subst, arith}
+use Rattle.std.proofs.Common.{◌≡◌, ◌<◌, ◌^◌, [], ◌∷◌, length, length-append, slice_get, refl, ap, sym, ◌∙◌, subst, arith, rules}
 use Rattle.shards.specs.Lanes.{IsLane}
 use Rattle.shards.specs.Sharing.{ends_of, shared_of}
 use Rattle.shard_rings.specs.Columns.{IsFinished}
@@ -45,3 +45,13 @@ cells-preserved g c =
       merged = took.merged i.merged;
       kept = c.pop.ensures.capacity ∙ i.kept;
     }
+
+pub returns-clause-finished : goal.returns-clause-finished
+returns-clause-finished g c =
+    let i = c.cells.invariant in
+    let r = c.cells.shard in
+    let empty : c.cells.column.items ≡ [] = search rules in
+    let z = ap length empty in
+    let count : length (ends_of r) ≡ length c.args.column.now.items = r.many ∙ (i.rings ∙ c.requires.rings) in
+    subst (IsFinished g.X.Shared.is_made c.args.column.now.items) (sym c.into_parts-shared.ensures.shared)
+    (finished_by g.X.Shared.is_made c.args.column.now.items (ends_of r) (shared_of r) count (λ p d end at is. i.so_far.taken p d end (omega (arith, z)) at is) i.merged)

@@ -4,4 +4,4 @@ use Rattle.shard_rings.specs.Making.{life}
 use Rattle.shard_rings.proofs.making.lives_of.Given as goal
 
 abbrev pub invariant-loop-p : goal.invariant-loop-p
-invariant-loop-p g l = ever l.lives.items ≡ replicate l._p life
+invariant-loop-p l = ever l.lives.items ≡ replicate l._p life
