@@ -29,7 +29,7 @@ make_all-made-requires-clause-jobs g c =
     omega (arith, n)
 
 pub run_or_end-requires-clause-many : goal.run_or_end-requires-clause-many
-run_or_end-requires-clause-many g c =
+run_or_end-requires-clause-many g c κs within =
     let b = c.requires.begun in
     let n = many_residents c.args.count b.0 b.1 c.args.residents.items (tasks_in c.args.means.jobs.items) b.2 in
     let same = ap length c.as_slice.ensures.value in
@@ -41,7 +41,7 @@ run_or_end-requires-clause-many g c =
     )
 
 pub run_or_end-requires-clause-serve : goal.run_or_end-requires-clause-serve
-run_or_end-requires-clause-serve g c =
+run_or_end-requires-clause-serve g c κs within =
     let b = c.requires.begun in
     let count = c.args.count in
     IfOk-weaker c.make_all-made.result _ _
@@ -52,7 +52,7 @@ run_or_end-requires-clause-serve g c =
     c.make_all-made.ensures.made
 
 pub run_or_end-requires-clause-lent : goal.run_or_end-requires-clause-lent
-run_or_end-requires-clause-lent g c =
+run_or_end-requires-clause-lent g c κs within =
     subst (λ ss. AreLent IsNew 0 c.args.count ss (lent_to c.make_all-made.new.jobs.items)) (sym c.as_slice.ensures.value) c.make_all-made.ensures.lent
 
 pub gather-requires-clause-lent : goal.gather-requires-clause-lent
