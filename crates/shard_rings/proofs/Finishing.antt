@@ -61,8 +61,7 @@ module _ {T : Type 0} where
           let e : n ≡ p = omega (arith, lt, more_than) in
           let k = so.many in
           let was : slice_get old n ≡ Some a = sym (so.rest n (omega arith)) ∙ at in
-          let one : x ≡ a = is_some_of (sym there ∙ (ap (slice_get old) (sym e) ∙ was)) in
-          (
+          let one : x ≡ a = is_some_of (sym there ∙ (ap (slice_get old) (sym e) ∙ was)) in (
             b,
             c,
             ap (slice_get (slice_set now n b)) (sym e) ∙ get_same now n b (slice_get_within now n a at),

@@ -97,8 +97,8 @@ module _ {B R T : Type 0} (limits : R → Limits) (squeues : List (Named R)) (co
           n.0,
           n.1,
           subst (λ (l : List (Option (Pass Element))). HasDone limits squeues Did t l n.0.task (lent_to new k)) (sym (lent_got jobs k j.0 j.1))
-          (subst (λ (l : List (Option (Pass Element))). HasDone limits squeues Did t j.0.places.items n.0.task l) (sym (lent_got new k n.0 n.1))
-          (subst (λ (u : Task B T). HasDone limits squeues Did u j.0.places.items n.0.task n.0.places.items) it ran)),
+              (subst (λ (l : List (Option (Pass Element))). HasDone limits squeues Did t j.0.places.items n.0.task l) (sym (lent_got new k n.0 n.1))
+              (subst (λ (u : Task B T). HasDone limits squeues Did u j.0.places.items n.0.task n.0.places.items) it ran)),
         )
 
     ring_done : (p : ℕ) → p < count → (b : RingTask B T) × (slice_get (tasks_in new) p ≡ Some (Ring b)) × HasBroughtOf limits squeues Did (tasks_in jobs) (lent_to new) p b
@@ -164,9 +164,9 @@ module _ {B R T : Type 0} (limits : R → Limits) (squeues : List (Named R)) (co
             let number : b.a.number ≡ p = ap (λ (t : RingTask B T). t.number) it ∙ first.2.number in
             at_made (λ s o. Holds (MayEnd limits p s) o) squeues (lent_to new p) b.brought.count
             (λ q s o at there.
-              (let less = slice_get_within squeues q s at in
-              let c = some_at r.0.cells.items q (omega (arith, less, n, m)) in
-              may_end p (length (sent_of c.0)) b.a.number s o number (b.brought.fed q s o c.0 at there c.1)))
+            (let less = slice_get_within squeues q s at in
+            let c = some_at r.0.cells.items q (omega (arith, less, n, m)) in
+            may_end p (length (sent_of c.0)) b.a.number s o number (b.brought.fed q s o c.0 at there c.1)))
           where
             ring_is : (x y : RingTask B T) → Ring x ≡ Ring y → x ≡ y
             ring_is x y e = cc e

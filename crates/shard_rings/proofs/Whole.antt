@@ -50,11 +50,10 @@ is_some_of is = cc is
 module _ {T : Type 0} where
   -- ends of the same lanes are the ends of one lane
   lane_still : (a b : Cell T) (x y : SqueueEnd T) → SameEnd a b → SameLane x y → IsLane a.end x → IsLane b.end y
-  lane_still a b x y ((o, o2), (k, k2)) ((i, i2), (g, g2)) (l, m) =
-      (
-        (i.0 ∙ (l.0 ∙ sym o.0), i.1 ∙ (l.1 ∙ sym o.1), i.2 ∙ (l.2 ∙ sym o.2), i.3 ∙ (l.3 ∙ sym o.3)),
-        (k.0 ∙ (m.0 ∙ sym g.0), k.1 ∙ (m.1 ∙ sym g.1), k.2 ∙ (m.2 ∙ sym g.2), k.3 ∙ (m.3 ∙ sym g.3)),
-      )
+  lane_still a b x y ((o, o2), (k, k2)) ((i, i2), (g, g2)) (l, m) = (
+    (i.0 ∙ (l.0 ∙ sym o.0), i.1 ∙ (l.1 ∙ sym o.1), i.2 ∙ (l.2 ∙ sym o.2), i.3 ∙ (l.3 ∙ sym o.3)),
+    (k.0 ∙ (m.0 ∙ sym g.0), k.1 ∙ (m.1 ∙ sym g.1), k.2 ∙ (m.2 ∙ sym g.2), k.3 ∙ (m.3 ∙ sym g.3)),
+  )
 
   -- the column of a matrix of what is in each cell
   column_is : (f : Cell T → List T) (rows : List (Vec (Cell T) Global)) (q : ℕ) (column : List (Cell T)) → IsColumn rows q column → column_of q (map (λ row. map f row.items) rows) ≡ map f column

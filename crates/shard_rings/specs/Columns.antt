@@ -28,7 +28,8 @@ module _ {T : Type 0} where
   -- the cells of a squeue, by ring, are the other ends of its lanes
   pub record AreLanes (column : List (Cell T)) (ends : List (SqueueEnd T)) : Type 0 where
     pub count : length ends ≡ length column
-    pub each : (p : ℕ) (c : Cell T) (end : SqueueEnd T) → slice_get column p ≡ Some c → slice_get ends p ≡ Some end → IsLane c.end end
+    pub each : (p : ℕ) (c : Cell T) (end : SqueueEnd T) → slice_get column p ≡ Some c → slice_get ends p ≡ Some end
+        → IsLane c.end end
 
   -- all that the ring sent by this cell was popped, and what it took back is a front of what was given back to it
   pub record HasTaken (c : Cell T) (end : SqueueEnd T) : Type 0 where
@@ -62,8 +63,8 @@ module _ {X H T O : Type 0} {G : Ghosts X T O} (rows : List (Vec (Cell T) Global
   pub record MayFinish (q : ℕ) (r : Shard X H T O G) : Type 0 where
     pub rings : rings_of r ≡ length rows
     pub count : length (ends_of r) ≡ length rows
-    pub lanes : (p : ℕ) (row : Vec (Cell T) Global) (c : Cell T) (end : SqueueEnd T) → slice_get rows p ≡ Some row → slice_get row.items q ≡ Some c
-        → slice_get (ends_of r) p ≡ Some end → IsLane c.end end
+    pub lanes : (p : ℕ) (row : Vec (Cell T) Global) (c : Cell T) (end : SqueueEnd T) → slice_get rows p ≡ Some row
+        → slice_get row.items q ≡ Some c → slice_get (ends_of r) p ≡ Some end → IsLane c.end end
     pub merged : IsMerged G.is_made (ends_of r) (shared_of r)
 
   -- so it is at each squeue
@@ -81,4 +82,5 @@ module _ {X H T O : Type 0} {G : Ghosts X T O} (rows : List (Vec (Cell T) Global
   -- and so did all
   pub record AreEnded (left : List (Left (Shard X H T O G))) (served : List (ServedShard X)) : Type 0 where
     pub count : length served ≡ length left
-    pub each : (q : ℕ) (w : ServedShard X) → slice_get served q ≡ Some w → (v : Left (Shard X H T O G)) × (slice_get left q ≡ Some v) × IsEnded q v w
+    pub each : (q : ℕ) (w : ServedShard X) → slice_get served q ≡ Some w
+        → (v : Left (Shard X H T O G)) × (slice_get left q ≡ Some v) × IsEnded q v w

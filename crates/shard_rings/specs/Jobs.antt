@@ -28,7 +28,8 @@ module _ {B R T : Type 0} (limits : R → Limits) (squeues : List (Named R)) whe
   MayDo (Work q) places = MayWorkAt limits squeues q places
 
   -- what a task has become, and has done by its places: a ring has brought, and a worker has seen the end
-  abbrev pub HasDone : (B → List (List T) → List (List T) → B → Type 0) → Task B T → List (Option (Pass Element)) → Task B T → List (Option (Pass Element)) → Type 0
+  abbrev pub HasDone : (B → List (List T) → List (List T) → B → Type 0) → Task B T → List (Option (Pass Element)) → Task B T
+      → List (Option (Pass Element)) → Type 0
   HasDone Did (Ring a) old (Ring b) new = HasBrought limits squeues Did new a b
   HasDone Did (Ring a) old (Work q) new = ⊥
   HasDone Did (Work q) old (Ring b) new = ⊥
@@ -37,10 +38,12 @@ module _ {B R T : Type 0} (limits : R → Limits) (squeues : List (Named R)) whe
   -- each job has done its task
   abbrev pub HaveDone : (B → List (List T) → List (List T) → B → Type 0) → List (Job (Task B T)) → List (Job (Task B T)) → Type 0
   HaveDone Did old new = (k : ℕ) (d : Job (Task B T)) → k < length old
-      → HasDone Did (slice_index_or old k d).task (slice_index_or old k d).places.items (slice_index_or new k d).task (slice_index_or new k d).places.items
+      → HasDone Did (slice_index_or old k d).task (slice_index_or old k d).places.items (slice_index_or new k d).task
+      (slice_index_or new k d).places.items
 
   -- the ring of this number has brought by the passes that it was lent, and has become this, of what it was
-  pub record HasBroughtOf (Did : B → List (List T) → List (List T) → B → Type 0) (before : List (Task B T)) (lent : ℕ → List (Option (Pass Element))) (p : ℕ) (b : RingTask B T) : Type 0 where
+  pub record HasBroughtOf (Did : B → List (List T) → List (List T) → B → Type 0) (before : List (Task B T))
+      (lent : ℕ → List (Option (Pass Element))) (p : ℕ) (b : RingTask B T) : Type 0 where
     pub a : RingTask B T
     pub was : slice_get before p ≡ Some (Ring a)
     pub brought : HasBrought limits squeues Did (lent p) a b

@@ -34,8 +34,8 @@ module _ {B T : Type 0} where
   pub record IsLaid (rings : List B) (ends : List (Vec (SqueueEnd T) Global)) (p : ℕ) (t : RingTask B T) : Type 0 where
     pub ring : IsNewRing (length ends) p t
     pub bringer : slice_get rings p ≡ Some t.bringer
-    pub lanes : (q : ℕ) (c : Cell T) (v : Vec (SqueueEnd T) Global) (end : SqueueEnd T) → slice_get t.cells.items q ≡ Some c → slice_get ends q ≡ Some v
-        → slice_get v.items p ≡ Some end → IsLane c.end end
+    pub lanes : (q : ℕ) (c : Cell T) (v : Vec (SqueueEnd T) Global) (end : SqueueEnd T) → slice_get t.cells.items q ≡ Some c
+        → slice_get ends q ≡ Some v → slice_get v.items p ≡ Some end → IsLane c.end end
 
 module _ {T : Type 0} where
   -- each squeue has so many ends, and nothing came by any
@@ -55,7 +55,8 @@ module _ {T : Type 0} where
   pub record AreGrown (cells : List (Cell T)) (old new : List (Vec (SqueueEnd T) Global)) : Type 0 where
     pub count : length new ≡ length old
     pub each : (q : ℕ) (c : Cell T) → slice_get cells q ≡ Some c
-        → (a : Vec (SqueueEnd T) Global) × (b : Vec (SqueueEnd T) Global) × (slice_get old q ≡ Some a) × (slice_get new q ≡ Some b) × IsGrown c a b
+        → (a : Vec (SqueueEnd T) Global) × (b : Vec (SqueueEnd T) Global) × (slice_get old q ≡ Some a) × (slice_get new q ≡ Some b)
+        × IsGrown c a b
     pub rest : (q : ℕ) → length cells ≤ q → slice_get new q ≡ slice_get old q
 
 module _ {X H T O : Type 0} {G : Ghosts X T O} where
@@ -70,10 +71,12 @@ module _ {X H T O : Type 0} {G : Ghosts X T O} where
   pub record AreShards (shared : List X) (ends : List (Vec (SqueueEnd T) Global)) (residents : List (Shard X H T O G)) : Type 0 where
     pub count : length residents ≡ length shared
     pub each : (q : ℕ) (r : Shard X H T O G) → slice_get residents q ≡ Some r
-        → (x : X) × (v : Vec (SqueueEnd T) Global) × (slice_get shared q ≡ Some x) × (slice_get ends q ≡ Some v) × IsShardOf x v r
+        → (x : X) × (v : Vec (SqueueEnd T) Global) × (slice_get shared q ≡ Some x) × (slice_get ends q ≡ Some v)
+        × IsShardOf x v r
 
   -- a run over these by these rings has begun: its lanes, tasks and residents are made
-  pub record HasBegun {B : Type 0} (count : ℕ) (shared : List X) (before : List B) (residents : List (Shard X H T O G)) (tasks : List (Task B T)) : Type 0 where
+  pub record HasBegun {B : Type 0} (count : ℕ) (shared : List X) (before : List B) (residents : List (Shard X H T O G))
+      (tasks : List (Task B T)) : Type 0 where
     pub ends : List (Vec (SqueueEnd T) Global)
     pub all : length before ≡ count
     pub are_ends : AreEnds count (length shared) ends

@@ -39,7 +39,8 @@ module _ {X T O : Type 0} (G : Ghosts X T O) where
     pub fed : (p : ℕ) → p < length sent → feeds_by p v.end.history ≡ length (cell sent p)
 
   -- Each ring did what it does with its row, and each squeue served its column
-  pub record HasRun {B : Type 0} (Did : B → List (List T) → List (List T) → B → Type 0) (shared : List X) (before after : List B) (left : List (ServedShard X)) : Type 0 where
+  pub record HasRun {B : Type 0} (Did : B → List (List T) → List (List T) → B → Type 0) (shared : List X) (before after : List B)
+      (left : List (ServedShard X)) : Type 0 where
     pub sent : List (List (List T))
     pub back : List (List (List T))
     pub rings : length after ≡ length before

@@ -32,12 +32,11 @@ pub run_or_end-requires-clause-many : goal.run_or_end-requires-clause-many
 run_or_end-requires-clause-many g c κs within =
     let b = c.requires.begun in
     let n = many_residents c.args.count b.0 b.1 c.args.residents.items (tasks_in c.args.means.jobs.items) b.2 in
-    let same = ap length c.as_slice.ensures.value in
-    (
+    let same = ap length c.as_slice.ensures.value in (
       length b.0,
       omega (arith, n, same, c.make_all-made.ensures.few),
       subst (λ t. AreTasks c.args.count (length b.0) (IsNewRing (length b.0)) t) (sym c.make_all-made.ensures.tasks)
-      (new_rings c.args.count b.0 b.1 c.args.residents.items (tasks_in c.args.means.jobs.items) b.2 (length b.0) refl),
+          (new_rings c.args.count b.0 b.1 c.args.residents.items (tasks_in c.args.means.jobs.items) b.2 (length b.0) refl),
     )
 
 pub run_or_end-requires-clause-serve : goal.run_or_end-requires-clause-serve
@@ -46,9 +45,9 @@ run_or_end-requires-clause-serve g c κs within =
     let count = c.args.count in
     IfOk-weaker c.make_all-made.result _ _
     (λ _ made.
-      (subst (λ ss. AllServe limits_for ss count × AreTasks count (length ss) (IsNewRing (length ss)) (tasks_in c.make_all-made.new.jobs.items)) (sym c.as_slice.ensures.value)
-      (subst (λ t. AllServe limits_for c.make_all-made.new.squeues.all.items count × AreTasks count (length c.make_all-made.new.squeues.all.items) (IsNewRing (length c.make_all-made.new.squeues.all.items)) t) (sym c.make_all-made.ensures.tasks)
-      (they_serve count b.0 b.1 c.args.residents.items (tasks_in c.args.means.jobs.items) b.2 limits_for c.make_all-made.new.squeues.all.items made))))
+    (subst (λ ss. AllServe limits_for ss count × AreTasks count (length ss) (IsNewRing (length ss)) (tasks_in c.make_all-made.new.jobs.items)) (sym c.as_slice.ensures.value)
+    (subst (λ t. AllServe limits_for c.make_all-made.new.squeues.all.items count × AreTasks count (length c.make_all-made.new.squeues.all.items) (IsNewRing (length c.make_all-made.new.squeues.all.items)) t) (sym c.make_all-made.ensures.tasks)
+    (they_serve count b.0 b.1 c.args.residents.items (tasks_in c.args.means.jobs.items) b.2 limits_for c.make_all-made.new.squeues.all.items made))))
     c.make_all-made.ensures.made
 
 pub run_or_end-requires-clause-lent : goal.run_or_end-requires-clause-lent
