@@ -225,7 +225,7 @@ where
     X::Parcel: Send,
     requires pool { MayEnter pool.now }
     requires many { (many : ℕ) × (length squeues.now ≤ many) × AreTasks count many (IsNewRing many) (tasks_in jobs.old.items) }
-    requires serve { IfOk made.now (λ _. AllServe limits_for count squeues.now
+    requires serve { IfOk made.now (λ _. AllServe limits_for squeues.now count
         × AreTasks count (length squeues.now) (IsNewRing (length squeues.now)) (tasks_in jobs.old.items)) }
     requires lent { AreLent IsNew 0 count squeues.now (lent_to jobs.old.items) }
     ensures done { IfOk made.now (λ _. AreTasks count (length squeues.now)
