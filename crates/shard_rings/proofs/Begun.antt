@@ -1,5 +1,5 @@
 -- What a run that has begun gives its parts.
-use Rattle.std.proofs.Common.{◌≡◌, ℕ, zero, suc, ◌+◌, ◌*◌, ◌<◌, ◌≤◌, All, Option, Some, List, [], ◌∷◌, length, map, slice_get, refl, ap, sym, ◌∙◌, subst, arith}
+use Rattle.std.proofs.Common.{◌≡◌, ℕ, zero, suc, ◌+◌, ◌*◌, ◌<◌, ◌≤◌, All, Option, Some, List, [], ◌∷◌, Vec, Global, length, map, slice_get, refl, ap, sym, ◌∙◌, subst, arith}
 use Rattle.std.proofs.lemmas.List.{length-map}
 use Rattle.turn_gate.specs.declared.pass.Pass.{Pass}
 use Rattle.perimeter_core.specs.History.{Element, Limits}
@@ -7,6 +7,7 @@ use Rattle.placed_parts.specs.Standing.{all_new}
 use Rattle.squeue_state.specs.Naming.{Named}
 use Rattle.squeue_serve.specs.declared.jobs.Job.{Job}
 use Rattle.squeue_serve.specs.Lending.{tasks_in}
+use Rattle.shards.specs.declared.lanes.SqueueEnd.{SqueueEnd}
 use Rattle.shards.specs.declared.shared.Shared.{Ghosts}
 use Rattle.shards.specs.declared.shard.Shard.{Shard}
 use Rattle.shards.specs.Numbering.{ring_limits}
@@ -15,7 +16,7 @@ use Rattle.shard_rings.specs.declared.run.RingTask.{RingTask}
 use Rattle.shard_rings.specs.declared.run.Task.{Task}
 use Rattle.shard_rings.specs.Columns.{rings_in}
 use Rattle.shard_rings.specs.Jobs.{AllServe, HasBroughtOf}
-use Rattle.shard_rings.specs.Making.{AreMadeOf, AreTasks, HasBegun, IsLaid, IsNewRing}
+use Rattle.shard_rings.specs.Making.{AreEnds, AreMadeOf, AreShards, AreTasks, HasBegun, IsLaid, IsNewRing}
 use Rattle.shard_rings.proofs.Apart.{rings_are}
 use Rattle.shard_rings.proofs.Finishing.{at_all}
 use Rattle.shard_rings.proofs.Made.{all_serve, all_stand}
@@ -59,3 +60,17 @@ moved {B = B} {R = R} {T = T} limits Did count ss ss' first first' tasks tasks' 
     subst (λ (l : List (Named R)). AreTasks count (length l) (HasBroughtOf limits l Did first lent) tasks) a
     (subst (λ (f : List (Task B T)). AreTasks count (length ss') (HasBroughtOf limits ss' Did f lent) tasks) b
     (subst (λ (t : List (Task B T)). AreTasks count (length ss') (HasBroughtOf limits ss' Did first' lent) t) (sym e) are))
+
+-- a run has begun with these
+pub has_begun : {X H T O B : Type 0} {G : Ghosts X T O} (count many : ℕ) (shared : List X) (before : List B) (ends : List (Vec (SqueueEnd T) Global)) (residents : List (Shard X H T O G)) (tasks given : List (Task B T)) → count ≡ length before → many ≡ length shared
+    → AreTasks (length before) many (IsLaid before ends) given → AreEnds (length before) many ends → AreShards shared ends residents → tasks ≡ given → HasBegun count shared before residents tasks
+has_begun {T = T} {B = B} count many shared before ends residents tasks given a b are_tasks are_ends are_shards same =
+    record {
+      ends = ends;
+      all = sym a;
+      are_ends = subst (λ (n : ℕ). AreEnds n (length shared) ends) (sym a) (subst (λ (n : ℕ). AreEnds (length before) n ends) b are_ends);
+      are_tasks =
+          subst (λ (t : List (Task B T)). AreTasks count (length shared) (IsLaid before ends) t) (sym same)
+          (subst (λ (n : ℕ). AreTasks n (length shared) (IsLaid before ends) given) (sym a) (subst (λ (n : ℕ). AreTasks (length before) n (IsLaid before ends) given) b are_tasks));
+      are_shards = are_shards;
+    }

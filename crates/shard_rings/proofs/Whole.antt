@@ -188,10 +188,10 @@ module _ {X H T O P Q B : Type 0} {G : Ghosts X T O} (R : Residing (Shard X H T 
           let same : SameLane e.0 end = r.same.1 p e.0 end (ap (λ (y : Vec (SqueueEnd T) Global). slice_get y.items p) their_first ∙ e.1) end_at in
           lane_still d.0 c e.0 end (w.brought.ends.each q d.0 c d.1 c_at) same lane
 
-  sent_rows : List (List (List T))
+  abbrev sent_rows : List (List (List T))
   sent_rows = map (λ row. map sent_of row.items) rows
 
-  back_rows : List (List (List T))
+  abbrev back_rows : List (List (List T))
   back_rows = map (λ row. map came_of row.items) rows
 
   module _ (q : ℕ) (x : X) (w : ServedShard X) (x_at : slice_get shared q ≡ Some x) (v : Left (Shard X H T O G)) (v_at : slice_get vs q ≡ Some v) (e : IsEnded rows q v w) where

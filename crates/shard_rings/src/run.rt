@@ -158,12 +158,12 @@ where
     requires rings { (1 ≤ count) × (count ≤ most_quotas) }
     requires parcels { (1 ≤ pool.now.parcels) × (count * pool.now.parcels ≤ most_feeds) }
     requires few { length residents.items < 2 ^ 32 }
-    requires begun { (shared : List X.Self) × (before : List B.Self) × HasBegun count shared before residents.items (tasks_in means.jobs.items) }
+    requires begun { (shared : List X) × (before : List B) × HasBegun count shared before residents.items (tasks_in means.jobs.items) }
     requires jobs { All (λ j. j.places.items ≡ []) means.jobs.items × HaveRoom (length residents.items) means.jobs.items }
     requires squeues { (means.squeues.all.items ≡ []) × (means.squeues.rooms.items ≡ []) }
     requires capacity { (length residents.items ≤ vec_capacity means.squeues.all) × (length residents.items ≤ vec_capacity means.squeues.rooms) }
     requires room { HasRoom count (length residents.items) means.room }
-    ensures { (shared : List X.Self) (before : List B.Self) → HasBegun count shared before residents.entry.items (tasks_in means.entry.jobs.items)
+    ensures { (shared : List X) (before : List B) → HasBegun count shared before residents.entry.items (tasks_in means.entry.jobs.items)
         → IfOk result (λ r. HasRun X.Shared B.did shared before r.0.items r.1.items) }
 {
     let Means {

@@ -29,7 +29,7 @@ make_all-made-requires-clause-jobs g c =
     omega (arith, n)
 
 pub run_or_end-requires-clause-many : goal.run_or_end-requires-clause-many
-run_or_end-requires-clause-many g c =
+run_or_end-requires-clause-many g c κs within =
     let b = c.requires.begun in
     let n = many_residents c.args.count b.0 b.1 c.args.residents.items (tasks_in c.args.means.jobs.items) b.2 in
     let same = ap length c.as_slice.ensures.value in
@@ -41,7 +41,7 @@ run_or_end-requires-clause-many g c =
     )
 
 pub run_or_end-requires-clause-serve : goal.run_or_end-requires-clause-serve
-run_or_end-requires-clause-serve g c =
+run_or_end-requires-clause-serve g c κs within =
     let b = c.requires.begun in
     let count = c.args.count in
     IfOk-weaker c.make_all-made.result _ _
@@ -52,7 +52,7 @@ run_or_end-requires-clause-serve g c =
     c.make_all-made.ensures.made
 
 pub run_or_end-requires-clause-lent : goal.run_or_end-requires-clause-lent
-run_or_end-requires-clause-lent g c =
+run_or_end-requires-clause-lent g c κs within =
     subst (λ ss. AreLent IsNew 0 c.args.count ss (lent_to c.make_all-made.new.jobs.items)) (sym c.as_slice.ensures.value) c.make_all-made.ensures.lent
 
 pub gather-requires-clause-lent : goal.gather-requires-clause-lent
@@ -71,8 +71,8 @@ gather-requires-clause-empty g c = c.requires.room.left.0
 pub gather-requires-clause-room : goal.gather-requires-clause-room
 gather-requires-clause-room g c = let a = c.requires.room.left.1 in omega (arith, a, c.make_all-made.ensures.few)
 
-pub take_apart-requires-clause-room : goal.take_apart-requires-clause-room
-take_apart-requires-clause-room g c =
+pub take_apart-rings-requires-clause-room : goal.take_apart-rings-requires-clause-room
+take_apart-rings-requires-clause-room g c =
     let n = ap (λ t. length (rings_in t)) c.gather.ensures.tasks ∙ c.run_or_end.ensures.rings in
     let a = c.requires.room.bringers.1 in
     let b = c.requires.room.rows.1 in
@@ -92,8 +92,8 @@ finish_all-served-requires-clause-rows g c =
     (λ _. AreTasks count (length c.as_slice.result.now) (HasBroughtOf limits_for c.as_slice.result.now g.B.Brings.did (tasks_in c.make_all-made.new.jobs.items) lent) (tasks_in c.run_or_end.new.jobs.items))
     c.make_all-made.result c.in_ok-made.field-0 c.in_ok-made.was c.run_or_end.ensures.done in
     let after = moved limits_for g.B.Brings.did count ss c.as_slice.result.now first (tasks_in c.make_all-made.new.jobs.items) tasks (tasks_in c.run_or_end.new.jobs.items) lent c.as_slice.ensures.value c.make_all-made.ensures.tasks c.gather.ensures.tasks done in
-    subst (λ l. All (λ row. length row.items ≡ length l) c.take_apart.result.rows.items) (sym c.reverse.ensures.items)
-    (rows_full _ g.B.Brings.did (λ r k h. h.1) (λ r t e. e) count b.0 b.1 c.args.residents.items first tasks b.2 ss made lent after vs c.gather.ensures.left c.take_apart.result.rows.items c.take_apart.ensures.rows)
+    subst (λ l. All (λ row. length row.items ≡ length l) c.take_apart-rings.result.rows.items) (sym c.reverse.ensures.items)
+    (rows_full _ g.B.Brings.did (λ r k h. h.1) (λ r t e. e) count b.0 b.1 c.args.residents.items first tasks b.2 ss made lent after vs c.gather.ensures.left c.take_apart-rings.result.rows.items c.take_apart-rings.ensures.rows)
 
 pub finish_all-served-requires-clause-may : goal.finish_all-served-requires-clause-may
 finish_all-served-requires-clause-may g c =
@@ -109,8 +109,8 @@ finish_all-served-requires-clause-may g c =
     (λ _. AreTasks count (length c.as_slice.result.now) (HasBroughtOf limits_for c.as_slice.result.now g.B.Brings.did (tasks_in c.make_all-made.new.jobs.items) lent) (tasks_in c.run_or_end.new.jobs.items))
     c.make_all-made.result c.in_ok-made.field-0 c.in_ok-made.was c.run_or_end.ensures.done in
     let after = moved limits_for g.B.Brings.did count ss c.as_slice.result.now first (tasks_in c.make_all-made.new.jobs.items) tasks (tasks_in c.run_or_end.new.jobs.items) lent c.as_slice.ensures.value c.make_all-made.ensures.tasks c.gather.ensures.tasks done in
-    subst (MayFinishAll c.take_apart.result.rows.items) (sym c.reverse.ensures.items)
-    (may_finish _ g.B.Brings.did (λ r k h. h.1) (λ r t e. e) count b.0 b.1 c.args.residents.items first tasks b.2 ss made lent after vs c.gather.ensures.left c.take_apart.result.rows.items c.take_apart.ensures.rows)
+    subst (MayFinishAll c.take_apart-rings.result.rows.items) (sym c.reverse.ensures.items)
+    (may_finish _ g.B.Brings.did (λ r k h. h.1) (λ r t e. e) count b.0 b.1 c.args.residents.items first tasks b.2 ss made lent after vs c.gather.ensures.left c.take_apart-rings.result.rows.items c.take_apart-rings.ensures.rows)
 
 pub returns : goal.returns
 returns g c shared before begun =
@@ -125,6 +125,6 @@ returns g c shared before begun =
     (λ _. AreTasks count (length c.as_slice.result.now) (HasBroughtOf limits_for c.as_slice.result.now g.B.Brings.did (tasks_in c.make_all-made.new.jobs.items) lent) (tasks_in c.run_or_end.new.jobs.items))
     c.make_all-made.result c.in_ok-made.field-0 c.in_ok-made.was c.run_or_end.ensures.done in
     let after = moved limits_for g.B.Brings.did count ss c.as_slice.result.now first (tasks_in c.make_all-made.new.jobs.items) tasks (tasks_in c.run_or_end.new.jobs.items) lent c.as_slice.ensures.value c.make_all-made.ensures.tasks c.gather.ensures.tasks done in
-    let ended = subst (λ l. AreEnded c.take_apart.result.rows.items l c.finish_all-served.result.items) c.reverse.ensures.items c.finish_all-served.ensures in
-    has_run _ g.B.Brings.did (λ r k h. h.1) (λ r t e. e) count shared before c.args.residents.items first tasks begun ss made lent after vs c.gather.ensures.left c.take_apart.result.rows.items c.take_apart.ensures.rows
-    c.take_apart.result.rings.items c.take_apart.ensures.rings c.finish_all-served.result.items ended
+    let ended = subst (λ l. AreEnded c.take_apart-rings.result.rows.items l c.finish_all-served.result.items) c.reverse.ensures.items c.finish_all-served.ensures in
+    has_run _ g.B.Brings.did (λ r k h. h.1) (λ r t e. e) count shared before c.args.residents.items first tasks begun ss made lent after vs c.gather.ensures.left c.take_apart-rings.result.rows.items c.take_apart-rings.ensures.rows
+    c.take_apart-rings.result.rings.items c.take_apart-rings.ensures.rings c.finish_all-served.result.items ended
