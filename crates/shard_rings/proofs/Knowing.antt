@@ -1,5 +1,5 @@
 -- What a ring's pass may do at a squeue, and what it knows afterwards.
-use Rattle.std.proofs.Common.{◌≡◌, ℕ, ◌+◌, ◌*◌, ◌%◌, ◌^◌, ◌==◌, ◌<◌, ◌≤◌, true, false, List, [], ◌∷◌, length, refl, ap, sym, ◌∙◌, subst, arith}
+use Rattle.std.proofs.Common.{◌≡◌, ℕ, ◌+◌, ◌*◌, ◌%◌, ◌^◌, ◌==◌, ◌<◌, ◌≤◌, true, false, List, [], ◌∷◌, ◌++◌, length, length-append, refl, ap, sym, ◌∙◌, subst, arith}
 use Rattle.std.specs.Prelude.{slice_index}
 use Rattle.std.proofs.lemmas.Bool.{eq-eqb}
 use Rattle.turn_gate.specs.Passes.{IsPassOf, number, seen}
@@ -25,6 +25,10 @@ one_of : (ring n : ℕ) → length (feeds_of ring (entries (feed_at ring n ∷ [
 one_of ring n = rw (eq-eqb ring ring refl) refl
 
 module _ {R : Type 0} (limits : R → Limits) (s : Named R) (ring : ℕ) where
+  -- one more was sent, and a feed entered for it
+  pub one_sent : {T : Type 0} (xs ys : List T) (x : T) (n : ℕ) (p : Pass Element) → ys ≡ xs ++ x ∷ [] → IsAt limits s ring n (length xs + 1) p → IsAt limits s ring n (length ys) p
+  one_sent xs ys x n p more at = subst (λ (k : ℕ). IsAt limits s ring n k p) (sym (ap length more ∙ length-append xs (x ∷ []))) at
+
   -- its part is elsewhere, between two asks of a renewal
   pub record IsOut (fed : ℕ) (p : Pass Element) : Type 0 where
     pub pass : IsPassOf number_of s.gate p

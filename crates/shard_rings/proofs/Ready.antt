@@ -1,5 +1,5 @@
 -- What the jobs of new squeues may do, and what is known when they have done it.
-use Rattle.std.proofs.Common.{◌≡◌, ◌⊎◌, ℕ, ◌+◌, ◌-◌, ◌<◌, ◌≤◌, Option, Some, None, List, [], ◌∷◌, All, inl, inr, length, slice_get, slice_index_or, refl, ap, sym, ◌∙◌, subst, arith}
+use Rattle.std.proofs.Common.{◌≡◌, ◌⊎◌, ℕ, ◌+◌, ◌-◌, ◌<◌, ◌≤◌, Option, Some, None, List, [], ◌∷◌, ◌++◌, All, inl, inr, drop, take, length, zero, suc, slice_get, slice_index_or, refl, ap, sym, ◌∙◌, subst, arith}
 use Rattle.std.proofs.lemmas.Bool.{cases_lt}
 use Rattle.std.proofs.lemmas.List.{length-map}
 use Rattle.std.proofs.lemmas.Option.{slice_get_within}
@@ -21,10 +21,12 @@ use Rattle.shard_rings.specs.declared.cell.Cell.{Cell}
 use Rattle.shard_rings.specs.declared.run.RingTask.{RingTask}
 use Rattle.shard_rings.specs.declared.run.Task.{Task}
 use Rattle.shard_rings.specs.declared.run.Task.TheVariants.{Ring, Work}
+use Rattle.shard_rings.specs.Columns.{rings_in}
 use Rattle.shard_rings.specs.Jobs.{AllServe, HasBroughtOf, HasDone, HaveDone, MayDo}
 use Rattle.shard_rings.specs.Knowing.{Serves, sent_of}
 use Rattle.shard_rings.specs.Making.{AreTasks, IsNewRing}
 use Rattle.shard_rings.specs.Tasks.{HasBrought, HasFed, HasWorkedAt, IsReady, MayWorkAt}
+use Rattle.shard_rings.proofs.Apart.{rings_are}
 use Rattle.shard_rings.proofs.Finishing.{at_all}
 
 is_some_of : {A : Type 0} {x y : A} → Some x ≡ Some y → x ≡ y
@@ -170,3 +172,31 @@ module _ {B R T : Type 0} (limits : R → Limits) (squeues : List (Named R)) (co
           where
             ring_is : (x y : RingTask B T) → Ring x ≡ Ring y → x ≡ y
             ring_is x y e = cc e
+
+    -- what a slice of all jobs gives back are all jobs
+    module _ (len : ℕ) (long : length jobs ≡ len) where
+      back : take len (new ++ drop (length new) jobs) ≡ new
+      back = take_front new (drop (length new) jobs) len (same ∙ long) (none_left jobs (length new) (omega (arith, same)))
+        where
+          none_left : {A : Type 0} (xs : List A) (n : ℕ) → length xs ≤ n → drop n xs ≡ []
+          none_left [] zero le = refl
+          none_left [] (suc n) le = refl
+          none_left (x ∷ xs) zero le = absurd (omega (arith, le))
+          none_left (x ∷ xs) (suc n) le = none_left xs n (omega (arith, le))
+
+          take_front : {A : Type 0} (xs ys : List A) (n : ℕ) → length xs ≡ n → ys ≡ [] → take n (xs ++ ys) ≡ xs
+          take_front [] ys zero e none = refl
+          take_front [] ys (suc n) e none = absurd (omega (arith, e))
+          take_front (x ∷ xs) ys zero e none = absurd (omega (arith, e))
+          take_front (x ∷ xs) ys (suc n) e none = ap (λ l. x ∷ l) (take_front xs ys n (omega (arith, e)) none)
+
+      pub all_done : AreTasks count (length squeues) (HasBroughtOf limits squeues Did (tasks_in jobs) (lent_to (take len (new ++ drop (length new) jobs)))) (tasks_in (take len (new ++ drop (length new) jobs)))
+      all_done = subst (λ (l : List (Job (Task B T))). AreTasks count (length squeues) (HasBroughtOf limits squeues Did (tasks_in jobs) (lent_to l)) (tasks_in l)) (sym back) tasks_after
+
+      pub all_ended : AreLent (MayEnd limits) 0 count squeues (lent_to (take len (new ++ drop (length new) jobs)))
+      all_ended = subst (λ (l : List (Job (Task B T))). AreLent (MayEnd limits) 0 count squeues (lent_to l)) (sym back) lent_after
+
+      pub all_rings : length (rings_in (tasks_in (take len (new ++ drop (length new) jobs)))) ≡ count
+      all_rings =
+          ap (λ (l : List (Job (Task B T))). length (rings_in (tasks_in l))) back
+          ∙ (rings_are count (length squeues) (HasBroughtOf limits squeues Did (tasks_in jobs) (lent_to new)) (tasks_in new) tasks_after).0
