@@ -138,6 +138,14 @@ struct Means<'a, X: Shared + Drop, B: Drop, W: Wait> {
     room: Room<X, Shard<X, &'a W>, B, X::Parcel>,
 }
 
+// What each job is done by: the runtime, the allocator, and how rings enter.
+#[derive(Drop)]
+struct Access<'a, W: Wait> {
+    rt: &'a W,
+    alloc: Global,
+    pool: &'a ShardPool,
+}
+
 // Makes the squeues, runs the jobs, and ends what was made.
 fn run_made<
     'a,
@@ -147,7 +155,7 @@ fn run_made<
 >(
     rt: &'a W,
     alloc: Global,
-    pool: &ShardPool,
+    pool: &'a ShardPool,
     count: u32,
     residents: Vec<Shard<X, &'a W>>,
     means: Means<'a, X, B, W>,
@@ -188,15 +196,8 @@ where
         &mut jobs,
         &mut squeues,
     );
-    run_or_end(
-        rt,
-        alloc,
-        pool,
-        &made,
-        squeues.all.as_slice(),
-        count,
-        &mut jobs,
-    );
+    let access = Access { rt, alloc, pool };
+    run_or_end(&access, &made, squeues.all.as_slice(), count, &mut jobs);
     gather(&mut squeues, &mut jobs, count as usize, &mut left);
     squeues.destroy_empty();
     let Brought { rings, rows } = take_apart(jobs, brought);
@@ -213,9 +214,7 @@ fn run_or_end<
     B: Brings<Parcel = X::Parcel> + Drop + Send,
     W: Threads + Wait + Sync,
 >(
-    rt: &'a W,
-    alloc: Global,
-    pool: &ShardPool,
+    access: &Access<'a, W>,
     made: &Result<(), AllocError>,
     squeues: &[Squeue<Shard<X, &'a W>>],
     count: u32,
@@ -223,7 +222,7 @@ fn run_or_end<
 )
 where
     X::Parcel: Send,
-    requires pool { MayEnter pool.now }
+    requires pool { MayEnter access.now.pool.now }
     requires many { (many : ℕ) × (length squeues.now ≤ many) × AreTasks count many (IsNewRing many) (tasks_in jobs.old.items) }
     requires serve { IfOk made.now (λ _. AllServe limits_for squeues.now count
         × AreTasks count (length squeues.now) (IsNewRing (length squeues.now)) (tasks_in jobs.old.items)) }
@@ -235,8 +234,16 @@ where
     ensures count { length jobs.new.items ≡ length jobs.old.items }
 {
     match made {
-        Ok(()) => run_all(rt, alloc, pool, squeues, jobs),
-        Err(_) => run_unused(rt, alloc, &NoHook, squeues, jobs, 0, count as usize),
+        Ok(()) => run_all(access, squeues, jobs),
+        Err(_) => run_unused(
+            access.rt,
+            access.alloc,
+            &NoHook,
+            squeues,
+            jobs,
+            0,
+            count as usize,
+        ),
     }
 }
 
@@ -246,22 +253,18 @@ fn run_all<
     X: Shared + Drop + Send,
     B: Brings<Parcel = X::Parcel> + Drop + Send,
     W: Threads + Wait + Sync,
->(
-    rt: &'a W,
-    alloc: Global,
-    pool: &ShardPool,
-    squeues: &[Squeue<Shard<X, &'a W>>],
-    jobs: &mut [Job<Task<B, X::Parcel>>],
-)
+>(access: &Access<'a, W>, squeues: &[Squeue<Shard<X, &'a W>>], jobs: &mut [Job<Task<B, X::Parcel>>])
 where
     X::Parcel: Send,
-    requires pool { MayEnter pool.now }
+    requires pool { MayEnter access.now.pool.now }
     requires may { All (λ j. MayDo limits_for squeues.now j.task j.places.items) jobs.old }
     ensures { HaveDone limits_for squeues.now B.did jobs.old jobs.new }
 {
     run_each(
-        rt,
+        access.rt,
         jobs,
-        &|_, job: &mut Job<Task<B, X::Parcel>>| { run_job(rt, alloc, pool, squeues, job) },
+        &|_, job: &mut Job<Task<B, X::Parcel>>| {
+            run_job(access.rt, access.alloc, access.pool, squeues, job)
+        },
     );
 }
