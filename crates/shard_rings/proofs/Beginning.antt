@@ -1,10 +1,9 @@
 -- What a ring knows when it begins.
-use Rattle.std.proofs.Common.{◌≡◌, ℕ, ◌+◌, ◌<◌, zero, suc, true, Option, Some, None, List, [], ◌∷◌, length, map, replicate, slice_get, refl, ap, sym, ◌∙◌, subst, arith}
-use Rattle.std.proofs.lemmas.List.{length-map}
-use Rattle.turn_gate.specs.Passes.{number, seen}
+use Rattle.std.proofs.Common.{◌≡◌, ℕ, zero, suc, Option, Some, None, List, [], ◌∷◌, length, map, replicate, slice_get, refl, ap, sym, ◌∙◌, subst, arith}
+use Rattle.turn_gate.specs.Passes.{seen}
 use Rattle.turn_gate.specs.declared.pass.Pass.{Pass}
 use Rattle.perimeter_core.specs.Perimeter.{Idle, is_here}
-use Rattle.perimeter_core.specs.History.{Element, Limits, Setting, run, start}
+use Rattle.perimeter_core.specs.History.{Element, Limits, Setting, run}
 use Rattle.perimeter_core.specs.Deeds.{due, times_left}
 use Rattle.perimeter_core.specs.Legal.{asks_by, feeds_by}
 use Rattle.squeue_state.specs.Naming.{Named, setting_of}
@@ -13,7 +12,7 @@ use Rattle.squeue_serve.proofs.Unused.{start_idle}
 use Rattle.squeue_rings.proofs.Slots.{at_got, at_length}
 use Rattle.shard_rings.specs.declared.cell.Cell.{Cell}
 use Rattle.shard_rings.specs.declared.run.RingTask.{RingTask}
-use Rattle.shard_rings.specs.Knowing.{IsAt, SameEnd, Serves, came_of, sent_of}
+use Rattle.shard_rings.specs.Knowing.{IsAt, SameEnd, Serves, sent_of}
 use Rattle.shard_rings.specs.Rows.{AreKnown, IsKnown, SameEnds}
 use Rattle.shard_rings.specs.Tasks.{IsNewCell, IsReady}
 use Rattle.shard_rings.proofs.Rows.{some_is}

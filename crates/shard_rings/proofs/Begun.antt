@@ -1,5 +1,5 @@
 -- What a run that has begun gives its parts.
-use Rattle.std.proofs.Common.{◌≡◌, ℕ, zero, suc, ◌+◌, ◌*◌, ◌<◌, ◌≤◌, All, Option, Some, List, [], ◌∷◌, Vec, Global, length, map, slice_get, refl, ap, sym, ◌∙◌, subst, arith}
+use Rattle.std.proofs.Common.{◌≡◌, ℕ, zero, suc, ◌+◌, ◌*◌, ◌≤◌, All, Option, List, Vec, Global, length, ap, sym, ◌∙◌, subst, arith}
 use Rattle.std.proofs.lemmas.List.{length-map}
 use Rattle.turn_gate.specs.declared.pass.Pass.{Pass}
 use Rattle.perimeter_core.specs.History.{Element, Limits}
@@ -14,10 +14,8 @@ use Rattle.shards.specs.Numbering.{ring_limits}
 use Rattle.shards.specs.Sharing.{StandsFor, limits_for, rings_of}
 use Rattle.shard_rings.specs.declared.run.RingTask.{RingTask}
 use Rattle.shard_rings.specs.declared.run.Task.{Task}
-use Rattle.shard_rings.specs.Columns.{rings_in}
 use Rattle.shard_rings.specs.Jobs.{AllServe, HasBroughtOf}
 use Rattle.shard_rings.specs.Making.{AreEnds, AreMadeOf, AreShards, AreTasks, HasBegun, IsLaid, IsNewRing}
-use Rattle.shard_rings.proofs.Apart.{rings_are}
 use Rattle.shard_rings.proofs.Finishing.{at_all}
 use Rattle.shard_rings.proofs.Made.{all_serve, all_stand}
 

@@ -1,13 +1,12 @@
 -- When a ring has brought, it may close its passes; closed, each has entered as many feeds as the ring sent parcels there.
-use Rattle.std.proofs.Common.{◌≡◌, ℕ, ◌+◌, ◌==◌, ◌<◌, zero, suc, Bool, true, false, if◌then◌else◌, Option, Some, None, List, [], ◌∷◌, ◌++◌, length, slice_get, refl, ap, sym, ◌∙◌, subst, arith}
+use Rattle.std.proofs.Common.{◌≡◌, ℕ, ◌+◌, ◌==◌, ◌<◌, zero, suc, Bool, true, false, if◌then◌else◌, Option, Some, None, List, [], ◌∷◌, length, slice_get, refl, ap, sym, ◌∙◌, subst, arith}
 use Rattle.std.proofs.lemmas.Option.{slice_get_within}
 use Rattle.turn_gate.specs.History.{only}
 use Rattle.turn_gate.specs.Passes.{IsPassOf, mine, number, seen}
 use Rattle.turn_gate.specs.declared.pass.Pass.{Pass}
 use Rattle.perimeter_core.specs.Perimeter.{Idle}
-use Rattle.perimeter_core.specs.History.{Element, Limits, made_by, pass_of, run}
-use Rattle.perimeter_core.specs.Deeds.{entries_of}
-use Rattle.perimeter_core.specs.Legal.{feed_count, feeds_by}
+use Rattle.perimeter_core.specs.History.{Element, Limits, pass_of, run}
+use Rattle.perimeter_core.specs.Legal.{feeds_by}
 use Rattle.perimeter_core.proofs.OwnCounts.{own_counts}
 use Rattle.perimeter_core.proofs.Quotas.{feeds_push}
 use Rattle.squeue_state.specs.Naming.{Named, setting_of}

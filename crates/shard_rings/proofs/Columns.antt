@@ -1,16 +1,14 @@
 -- What is left at one squeue, and what it served.
-use Rattle.std.proofs.Common.{◌≡◌, ◌≢◌, ℕ, zero, suc, ◌+◌, ◌==◌, ◌<◌, ◌≤◌, Bool, true, false, Option, Some, List, [], ◌∷◌, ◌++◌, length, length-append, map, slice_get, slice_index_or, refl, ap, sym, ◌∙◌, subst, arith}
-use Rattle.std.specs.Prelude.{filter}
+use Rattle.std.proofs.Common.{◌≡◌, ◌≢◌, ℕ, zero, suc, ◌+◌, ◌==◌, ◌<◌, ◌≤◌, Bool, true, false, Some, List, [], ◌∷◌, ◌++◌, length, length-append, map, slice_get, refl, ap, sym, ◌∙◌, subst, arith}
 use Rattle.std.specs.List.{AllByRecursion}
 use Rattle.std.proofs.lemmas.Bool.{eqb-true, eq-eqb}
 use Rattle.std.proofs.lemmas.List.{length-map}
 use Rattle.std.proofs.lemmas.Option.{slice_get_within}
 use mathlib.Core.List.{IsPrefix}
 use Rattle.histories.proofs.ListPlaces.{from_map}
-use Rattle.rtrb.specs.Ring.{received, sent}
 use Rattle.shards.specs.declared.lanes.SqueueEnd.{SqueueEnd}
 use Rattle.shards.specs.Mixing.{IsMix, from_ring}
-use Rattle.shards.specs.Merging.{GaveBack, HasAll, IsMerged, came_from, went_to}
+use Rattle.shards.specs.Merging.{GaveBack, HasAll, IsMerged, came_from}
 use Rattle.shard_rings.specs.declared.cell.Cell.{Cell}
 use Rattle.shard_rings.specs.Knowing.{came_of, sent_of}
 use Rattle.shard_rings.specs.Columns.{HasTaken, IsFinished}

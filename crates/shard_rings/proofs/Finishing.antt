@@ -1,5 +1,5 @@
 -- Squeues whose rings' parcels are all taken, the last one first.
-use Rattle.std.proofs.Common.{◌≡◌, ◌≢◌, ◌⊎◌, ℕ, zero, suc, ◌+◌, ◌<◌, ◌≤◌, Some, List, [], ◌∷◌, ◌++◌, All, Vec, Global, inl, inr, length, length-append, slice_get, slice_index_or, slice_set, refl, ap, sym, ◌∙◌, subst, arith}
+use Rattle.std.proofs.Common.{◌≡◌, ◌⊎◌, ℕ, zero, suc, ◌+◌, ◌<◌, ◌≤◌, Some, List, [], ◌∷◌, ◌++◌, All, Vec, Global, inl, inr, length, length-append, slice_get, slice_set, refl, ap, sym, ◌∙◌, subst, arith}
 use Rattle.std.proofs.lemmas.Bool.{cases_lt}
 use Rattle.std.proofs.lemmas.List.{length-set}
 use Rattle.std.proofs.lemmas.Option.{slice_get_within}
@@ -7,7 +7,6 @@ use Rattle.perimeter_core.proofs.ActLists.{get_other, get_same}
 use Rattle.histories.proofs.ListPlaces.{get_front, some_at}
 use Rattle.squeue_serve.proofs.Lent.{get_end}
 use Rattle.squeue_rings.proofs.Works.{got_or}
-use Rattle.shards.specs.declared.lanes.SqueueEnd.{SqueueEnd}
 use Rattle.shards.specs.declared.shared.Shared.{Ghosts}
 use Rattle.shards.specs.declared.shard.Shard.{Shard}
 use Rattle.shards.specs.Lanes.{IsLane}

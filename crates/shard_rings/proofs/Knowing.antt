@@ -1,15 +1,14 @@
 -- What a ring's pass may do at a squeue, and what it knows afterwards.
-use Rattle.std.proofs.Common.{◌≡◌, ℕ, ◌+◌, ◌*◌, ◌%◌, ◌^◌, ◌==◌, ◌<◌, ◌≤◌, true, false, List, [], ◌∷◌, ◌++◌, length, length-append, refl, ap, sym, ◌∙◌, subst, arith}
-use Rattle.std.specs.Prelude.{slice_index}
+use Rattle.std.proofs.Common.{◌≡◌, ℕ, ◌+◌, ◌*◌, ◌%◌, ◌^◌, ◌<◌, ◌≤◌, true, false, List, [], ◌∷◌, ◌++◌, length, length-append, refl, ap, sym, ◌∙◌, subst, arith}
 use Rattle.std.proofs.lemmas.Bool.{eq-eqb}
 use Rattle.turn_gate.specs.Passes.{IsPassOf, number, seen}
 use Rattle.turn_gate.specs.declared.pass.Pass.{Pass}
 use Rattle.perimeter_core.specs.declared.entries.Feed.{Feed as FeedOf}
 use Rattle.perimeter_core.specs.declared.marks.SynchAct.TheVariants as Done
 use Rattle.perimeter_core.specs.Perimeter.{Idle, is_here}
-use Rattle.perimeter_core.specs.History.{Element, Limits, Setting, ask_quota, feed_quota, run}
+use Rattle.perimeter_core.specs.History.{Element, Limits, ask_quota, feed_quota, run}
 use Rattle.perimeter_core.specs.Deeds.{due, entries, feeds_of, times_left}
-use Rattle.perimeter_core.specs.Legal.{Enters, asks_by, feeds_by}
+use Rattle.perimeter_core.specs.Legal.{asks_by, feeds_by}
 use Rattle.histories.specs.Elements.{number_of}
 use Rattle.squeue_state.specs.Naming.{Named, setting_of}
 use Rattle.squeue_enter.specs.Entering.{Brought, MayEnter, MayGoOn}

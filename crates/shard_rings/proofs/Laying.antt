@@ -1,7 +1,7 @@
 -- Lanes and tasks, made one after another.
-use Rattle.std.proofs.Common.{◌≡◌, ◌≢◌, ◌⊎◌, ℕ, zero, suc, ◌+◌, ◌<◌, ◌≤◌, Some, List, [], ◌∷◌, ◌++◌, Vec, Global, inl, inr, length, length-append, append_assoc, slice_get, slice_set, refl, ap, sym, ◌∙◌, subst, arith}
+use Rattle.std.proofs.Common.{◌≡◌, ◌⊎◌, ℕ, zero, suc, ◌+◌, ◌<◌, ◌≤◌, Some, List, [], ◌∷◌, ◌++◌, Vec, Global, inl, inr, length, length-append, append_assoc, slice_get, slice_set, refl, ap, sym, ◌∙◌, subst, arith}
 use Rattle.std.proofs.lemmas.Bool.{cases_lt}
-use Rattle.std.proofs.lemmas.List.{append-nil, length-set}
+use Rattle.std.proofs.lemmas.List.{length-set}
 use Rattle.std.proofs.lemmas.Option.{slice_get_within}
 use Rattle.perimeter_core.proofs.ActLists.{get_other, get_same}
 use Rattle.histories.proofs.ListPlaces.{get_front, some_at}
@@ -15,7 +15,6 @@ use Rattle.shard_rings.specs.declared.run.RingTask.{RingTask}
 use Rattle.shard_rings.specs.declared.run.Task.{Task}
 use Rattle.shard_rings.specs.declared.run.Task.TheVariants.{Ring, Work}
 use Rattle.shard_rings.specs.Making.{AreEnds, AreGrown, AreTasks, IsGrown, IsLaid, IsNewRing}
-use Rattle.shard_rings.specs.Tasks.{IsNewCell}
 
 is_some_of : {A : Type 0} {x y : A} → Some x ≡ Some y → x ≡ y
 is_some_of is = cc is

@@ -1,5 +1,5 @@
 -- Residents and squeues, made one after another.
-use Rattle.std.proofs.Common.{◌≡◌, ℕ, zero, suc, ◌+◌, ◌*◌, ◌%◌, ◌^◌, ◌-◌, ◌<◌, ◌≤◌, Bool, true, false, Option, Some, None, List, [], ◌∷◌, ◌++◌, All, Vec, Global, is_some, if◌then◌else◌, length, length-append, append_assoc, map, replicate, reverse, slice_get, slice_index_or, refl, ap, sym, ◌∙◌, subst, arith}
+use Rattle.std.proofs.Common.{◌≡◌, ℕ, zero, suc, ◌+◌, ◌*◌, ◌%◌, ◌^◌, ◌-◌, ◌<◌, ◌≤◌, Bool, true, false, Option, Some, None, List, [], ◌∷◌, ◌++◌, Vec, Global, is_some, if◌then◌else◌, length, length-append, append_assoc, replicate, reverse, slice_get, slice_index_or, refl, ap, sym, ◌∙◌, subst, arith}
 use Rattle.std.specs.Prelude.{nat_lt, slice_index}
 use Rattle.std.proofs.Math.Nat.{mod-eq_of_lt}
 use Rattle.std.proofs.lemmas.Bool.Decides.{nat_tests}
@@ -22,11 +22,9 @@ use Rattle.squeue_rings.proofs.Tasked.{each_more}
 use Rattle.shards.specs.declared.lanes.SqueueEnd.{SqueueEnd}
 use Rattle.shards.specs.declared.shared.Shared.{Ghosts}
 use Rattle.shards.specs.declared.shard.Shard.{Shard}
-use Rattle.shards.specs.Merging.{AreUnused}
 use Rattle.shards.specs.Numbering.{ring_limits}
-use Rattle.shards.specs.Sharing.{StandsFor, first_ends, limits_for, origin_of, rings_of, shared_of}
+use Rattle.shards.specs.Sharing.{StandsFor, first_ends, limits_for, rings_of, shared_of}
 use Rattle.shard_rings.specs.Jobs.{AllServe}
-use Rattle.shard_rings.specs.Knowing.{Serves}
 use Rattle.shard_rings.specs.Making.{AreEnds, AreMadeOf, AreShards, IsMadeOf, IsShardOf, life, setting_for}
 use Rattle.shard_rings.proofs.Finishing.{behind}
 

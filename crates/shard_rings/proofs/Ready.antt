@@ -17,7 +17,6 @@ use Rattle.squeue_serve.proofs.Lent.{lent_got, past_jobs}
 use Rattle.squeue_serve.proofs.Unused.{each_at}
 use Rattle.squeue_rings.proofs.Slots.{at_made}
 use Rattle.squeue_rings.proofs.Works.{got_or}
-use Rattle.shard_rings.specs.declared.cell.Cell.{Cell}
 use Rattle.shard_rings.specs.declared.run.RingTask.{RingTask}
 use Rattle.shard_rings.specs.declared.run.Task.{Task}
 use Rattle.shard_rings.specs.declared.run.Task.TheVariants.{Ring, Work}
@@ -25,7 +24,7 @@ use Rattle.shard_rings.specs.Columns.{rings_in}
 use Rattle.shard_rings.specs.Jobs.{AllServe, HasBroughtOf, HasDone, HaveDone, MayDo}
 use Rattle.shard_rings.specs.Knowing.{Serves, sent_of}
 use Rattle.shard_rings.specs.Making.{AreTasks, IsNewRing}
-use Rattle.shard_rings.specs.Tasks.{HasBrought, HasFed, HasWorkedAt, IsReady, MayWorkAt}
+use Rattle.shard_rings.specs.Tasks.{HasBrought, HasFed, HasWorkedAt, IsReady}
 use Rattle.shard_rings.proofs.Apart.{rings_are}
 use Rattle.shard_rings.proofs.Finishing.{at_all}
 

@@ -1,5 +1,5 @@
 -- What a run has done, from what its squeues, its rings and their lanes have become.
-use Rattle.std.proofs.Common.{◌≡◌, ℕ, zero, suc, ◌+◌, ◌<◌, ◌≤◌, Option, Some, List, [], ◌∷◌, All, Vec, Global, length, map, replicate, slice_get, slice_index_or, refl, ap, sym, ◌∙◌, subst, arith}
+use Rattle.std.proofs.Common.{◌≡◌, ℕ, suc, ◌+◌, ◌<◌, Option, Some, List, [], ◌∷◌, All, Vec, Global, length, map, slice_get, refl, ap, sym, ◌∙◌, subst, arith}
 use Rattle.std.proofs.lemmas.List.{length-map}
 use Rattle.std.proofs.lemmas.Option.{slice_get_within}
 use mathlib.Core.List.{IsPrefix}
@@ -7,37 +7,33 @@ use Rattle.turn_gate.specs.Passes.{mine, number, seen}
 use Rattle.turn_gate.specs.declared.pass.Pass.{Pass}
 use Rattle.perimeter_core.specs.declared.resident.Resident.{Ghosts as Residing}
 use Rattle.perimeter_core.specs.Blocks.{Blocks}
-use Rattle.perimeter_core.specs.History.{Element, Limits}
+use Rattle.perimeter_core.specs.History.{Element}
 use Rattle.perimeter_core.specs.Legal.{feeds_by}
 use Rattle.histories.specs.Endings.{Ending, HasEnded}
 use Rattle.histories.proofs.ListPlaces.{from_map, got_map, some_at}
-use Rattle.squeue_state.specs.Clauses.{Knows}
 use Rattle.squeue_state.specs.Naming.{Named, setting_of}
-use Rattle.squeue_serve.specs.Places.{Holds}
 use Rattle.squeue_rings.proofs.Works.{got_or}
 use Rattle.squeue_pool.specs.declared.work.Left.{Left}
 use Rattle.squeue_pool.specs.Leftovers.{HaveLeft, Leaves}
-use Rattle.rtrb.specs.Ring.{IsPair}
-use Rattle.shards.specs.declared.lanes.RingEnd.{RingEnd}
 use Rattle.shards.specs.declared.lanes.SqueueEnd.{SqueueEnd}
 use Rattle.shards.specs.declared.shared.Shared.{Ghosts}
 use Rattle.shards.specs.declared.shard.Shard.{Shard}
 use Rattle.shards.specs.Lanes.{IsLane}
 use Rattle.shards.specs.Mixing.{IsMix}
 use Rattle.shards.specs.Merging.{IsMerged, SameLane, went_to}
-use Rattle.shards.specs.Sharing.{ends_of, limits_for, origin_of, rings_of, shared_of}
+use Rattle.shards.specs.Sharing.{ends_of, origin_of, shared_of}
 use Rattle.shard_rings.specs.declared.cell.Cell.{Cell}
 use Rattle.shard_rings.specs.declared.run.RingTask.{RingTask}
 use Rattle.shard_rings.specs.declared.run.ServedShard.{ServedShard}
 use Rattle.shard_rings.specs.declared.run.Task.{Task}
-use Rattle.shard_rings.specs.declared.run.Task.TheVariants.{Ring, Work}
+use Rattle.shard_rings.specs.declared.run.Task.TheVariants.{Ring}
 use Rattle.shard_rings.specs.Cells.{cell}
-use Rattle.shard_rings.specs.Columns.{AreEnded, IsColumn, IsEnded, MayFinish, MayFinishAll, rings_in}
+use Rattle.shard_rings.specs.Columns.{AreEnded, IsColumn, IsEnded, MayFinishAll, rings_in}
 use Rattle.shard_rings.specs.Jobs.{HasBroughtOf}
 use Rattle.shard_rings.specs.Knowing.{SameEnd, came_of, sent_of}
-use Rattle.shard_rings.specs.Making.{AreMadeOf, AreTasks, HasBegun, IsLaid, IsShardOf, setting_for}
+use Rattle.shard_rings.specs.Making.{AreMadeOf, AreTasks, HasBegun, IsLaid, setting_for}
 use Rattle.shard_rings.specs.Runs.{HasRun, IsServed, as_came, column_of, row_of}
-use Rattle.shard_rings.specs.Tasks.{HasBrought, HasFed}
+use Rattle.shard_rings.specs.Tasks.{HasFed}
 use Rattle.shard_rings.proofs.Apart.{rings_are}
 use Rattle.shard_rings.proofs.Closing.{own_feeds}
 use Rattle.shard_rings.proofs.Columns.{is_mix}

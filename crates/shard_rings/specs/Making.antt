@@ -1,5 +1,5 @@
 -- What a run begins with: the tasks of its jobs, the squeues' ends of all lanes, what lives in the squeues, and the squeues.
-use Rattle.std.specs.Prelude.{◌≡◌, ℕ, ◌+◌, ◌^◌, ◌<◌, ◌≤◌, Bool, true, Some, List, [], ◌∷◌, ◌++◌, Vec, length, replicate, slice_get}
+use Rattle.std.specs.Prelude.{◌≡◌, ℕ, ◌+◌, ◌^◌, ◌<◌, ◌≤◌, true, Some, List, [], ◌∷◌, ◌++◌, Vec, length, replicate, slice_get}
 use Rattle.std.proofs.Common.{Global}
 use Rattle.perimeter_core.specs.History.{Limits, Setting}
 use Rattle.placed_parts.specs.Standing.{all_new}

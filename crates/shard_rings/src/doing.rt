@@ -88,7 +88,8 @@ fn run_by<X: Shared + Drop, B: Brings<Parcel = X::Parcel> + Drop, H: Wait + Drop
     requires pool { MayEnter pool.now }
     requires ready { IsReady limits_for squeues.now places.items ring }
     ensures number { result.0.number ≡ ring.number }
-    ensures did { B.did ring.bringer (map sent_of result.0.cells.items) (map came_of result.0.cells.items) result.0.bringer }
+    ensures did { B.did ring.bringer (map sent_of result.0.cells.items)
+        (map came_of result.0.cells.items) result.0.bringer }
     ensures ends { SameEnds ring.cells.items result.0.cells.items }
     ensures known { AreKnown limits_for ring.number squeues.now result.1.items result.0.cells.items }
 {

@@ -25,7 +25,8 @@ pub(crate) fn gather<R: Resident, T>(
 )
     requires jobs { count + length squeues.old.all.items ≤ length jobs.old.items }
     requires lent { AreLent (MayEnd R.limits) 0 count squeues.old.all.items (lent_to jobs.old.items) }
-    requires rooms { (length squeues.old.rooms.items ≡ length squeues.old.all.items) × All (IsRoomFor (count + 1)) squeues.old.rooms.items }
+    requires rooms { (length squeues.old.rooms.items ≡ length squeues.old.all.items)
+        × All (IsRoomFor (count + 1)) squeues.old.rooms.items }
     requires empty { left.old.items ≡ [] }
     requires room { length squeues.old.all.items ≤ vec_capacity left.old }
     ensures none { (squeues.new.all.items ≡ []) × (squeues.new.rooms.items ≡ []) }
@@ -49,7 +50,8 @@ pub(crate) fn take_apart<B: Drop, P: Drop>(
 ) -> Brought<B, P>
     requires places { All (λ j. j.places.items ≡ []) jobs.items }
     requires empty { (room.rings.items ≡ []) × (room.rows.items ≡ []) }
-    requires room { (length (rings_in (tasks_in jobs.items)) ≤ vec_capacity room.rings) × (length (rings_in (tasks_in jobs.items)) ≤ vec_capacity room.rows) }
+    requires room { (length (rings_in (tasks_in jobs.items)) ≤ vec_capacity room.rings)
+        × (length (rings_in (tasks_in jobs.items)) ≤ vec_capacity room.rows) }
     ensures rings { result.rings.items ≡ map (λ t. t.bringer) (rings_in (tasks_in jobs.items)) }
     ensures rows { result.rows.items ≡ map (λ t. t.cells) (rings_in (tasks_in jobs.items)) }
 {
@@ -72,7 +74,8 @@ fn keep<B: Drop, P: Drop>(brought: &mut Brought<B, P>, task: Task<B, P>)
         × (length brought.old.rows.items + length (rings_in (task ∷ [])) ≤ vec_capacity brought.old.rows) }
     ensures rings { brought.new.rings.items ≡ brought.old.rings.items ++ map (λ t. t.bringer) (rings_in (task ∷ [])) }
     ensures rows { brought.new.rows.items ≡ brought.old.rows.items ++ map (λ t. t.cells) (rings_in (task ∷ [])) }
-    ensures capacity { (vec_capacity brought.new.rings ≡ vec_capacity brought.old.rings) × (vec_capacity brought.new.rows ≡ vec_capacity brought.old.rows) }
+    ensures capacity { (vec_capacity brought.new.rings ≡ vec_capacity brought.old.rings)
+        × (vec_capacity brought.new.rows ≡ vec_capacity brought.old.rows) }
 {
     if let Task::Ring(ring) = task {
         let RingTask {

@@ -64,7 +64,8 @@ pub trait Lanes {
         requires range { q < length (sent self.old) }
         ensures ready { ready self.new }
         ensures none { IfNone result (back self.new ≡ back self.old) }
-        ensures some { IfSome result (λ x. back self.new ≡ slice_set (back self.old) q (cell (back self.old) q ++ x ∷ [])) }
+        ensures some { IfSome result
+            (λ x. back self.new ≡ slice_set (back self.old) q (cell (back self.old) q ++ x ∷ [])) }
         ensures sent { sent self.new ≡ sent self.old }
         ensures room { room self.new ≡ room self.old }
         ensures origin { origin self.new ≡ origin self.old };

@@ -4,6 +4,9 @@
 //! parcel to a squeue, and takes one that is back. Sending is a push and one feed. The owner of the squeue has what its rings
 //! share take the parcel, as a [`shards::Shard`] does. [`run_shards`] is a whole run: a thread for each ring and a worker for each
 //! squeue.
+//!
+//! A ring that waits for a parcel has the squeue do all its feeds, so it needs no other thread for that. What comes back by a lane comes in
+//! the order in which it was sent. It never chooses a squeue for a parcel, as a ring does, and never opens one.
 #![tactic(auto)]
 
 mod bringing;

@@ -137,15 +137,18 @@ pub(crate) fn make_all<X: Shared + Drop, H: Wait + Drop, B: Drop>(
     requires rings { (1 ≤ rings) × (rings ≤ most_quotas) }
     requires room { (1 ≤ room) × (room ≤ most_feeds) }
     requires few { length residents.items < 2 ^ 32 }
-    requires residents { All (λ r. StandsFor r (all_new rings) × (rings_of r ≡ rings) × (limits_for r ≡ ring_limits rings)) residents.items }
+    requires residents { All (λ r. StandsFor r (all_new rings) × (rings_of r ≡ rings)
+        × (limits_for r ≡ ring_limits rings)) residents.items }
     requires jobs { rings + length residents.items ≤ length jobs.old.items }
     requires places { All (λ j. j.places.items ≡ []) jobs.old.items × HaveRoom (length residents.items) jobs.old.items }
     requires empty { (squeues.old.all.items ≡ []) × (squeues.old.rooms.items ≡ []) }
-    requires capacity { (length residents.items ≤ vec_capacity squeues.old.all) × (length residents.items ≤ vec_capacity squeues.old.rooms) }
+    requires capacity { (length residents.items ≤ vec_capacity squeues.old.all)
+        × (length residents.items ≤ vec_capacity squeues.old.rooms) }
     ensures made { IfOk result (λ _. AreMadeOf limits_for rings residents.items squeues.new.all.items) }
     ensures few { length squeues.new.all.items ≤ length residents.items }
     ensures lent { AreLent IsNew 0 rings squeues.new.all.items (lent_to jobs.new.items) }
-    ensures rooms { (length squeues.new.rooms.items ≡ length squeues.new.all.items) × All (IsRoomFor (rings + 1)) squeues.new.rooms.items }
+    ensures rooms { (length squeues.new.rooms.items ≡ length squeues.new.all.items)
+        × All (IsRoomFor (rings + 1)) squeues.new.rooms.items }
     ensures tasks { tasks_in jobs.new.items ≡ tasks_in jobs.old.items }
 {
     let mut residents = residents;

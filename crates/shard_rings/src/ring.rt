@@ -47,7 +47,8 @@ impl<'q, X: Shared + Drop, H: Wait + Drop> Lanes for RingLanes<'q, X, H> {
 
     ghost origin = { λ l. (l.ring, l.first.value, l.squeues) };
 
-    ghost ready = { λ l. AreKnown limits_for l.ring l.squeues.now l.places.items l.cells.items × SameEnds l.first.value.items l.cells.items };
+    ghost ready = { λ l. AreKnown limits_for l.ring l.squeues.now l.places.items l.cells.items
+        × SameEnds l.first.value.items l.cells.items };
 
     fn squeues(&self) -> usize {
         self.cells.len()

@@ -131,7 +131,8 @@ fn room_for<X: Drop, R: Drop, B: Drop, P: Drop>(
     })
 }
 
-// What a run has beside what lives in its squeues, made before them: the jobs, no pass lent, and room for the squeues, and for what is left.
+// What a run has beside what lives in its squeues, made before them: the jobs, to which no pass is lent; and room for the squeues, and for
+// what is left.
 struct Means<'a, X: Shared + Drop, B: Drop, W: Wait> {
     jobs: Vec<Job<Task<B, X::Parcel>>>,
     squeues: Squeues<Shard<X, &'a W>>,
@@ -166,12 +167,16 @@ where
     requires rings { (1 ≤ count) × (count ≤ most_quotas) }
     requires parcels { (1 ≤ pool.now.parcels) × (count * pool.now.parcels ≤ most_feeds) }
     requires few { length residents.items < 2 ^ 32 }
-    requires begun { (shared : List X) × (before : List B) × HasBegun count shared before residents.items (tasks_in means.jobs.items) }
-    requires jobs { All (λ j. j.places.items ≡ []) means.jobs.items × HaveRoom (length residents.items) means.jobs.items }
+    requires begun { (shared : List X) × (before : List B)
+        × HasBegun count shared before residents.items (tasks_in means.jobs.items) }
+    requires jobs { All (λ j. j.places.items ≡ []) means.jobs.items
+        × HaveRoom (length residents.items) means.jobs.items }
     requires squeues { (means.squeues.all.items ≡ []) × (means.squeues.rooms.items ≡ []) }
-    requires capacity { (length residents.items ≤ vec_capacity means.squeues.all) × (length residents.items ≤ vec_capacity means.squeues.rooms) }
+    requires capacity { (length residents.items ≤ vec_capacity means.squeues.all)
+        × (length residents.items ≤ vec_capacity means.squeues.rooms) }
     requires room { HasRoom count (length residents.items) means.room }
-    ensures { (shared : List X) (before : List B) → HasBegun count shared before residents.entry.items (tasks_in means.entry.jobs.items)
+    ensures { (shared : List X) (before : List B)
+        → HasBegun count shared before residents.entry.items (tasks_in means.entry.jobs.items)
         → IfOk result (λ r. HasRun X.Shared B.did shared before r.0.items r.1.items) }
 {
     let Means {
@@ -223,7 +228,8 @@ fn run_or_end<
 where
     X::Parcel: Send,
     requires pool { MayEnter access.now.pool.now }
-    requires many { (many : ℕ) × (length squeues.now ≤ many) × AreTasks count many (IsNewRing many) (tasks_in jobs.old.items) }
+    requires many { (many : ℕ) × (length squeues.now ≤ many)
+        × AreTasks count many (IsNewRing many) (tasks_in jobs.old.items) }
     requires serve { IfOk made.now (λ _. AllServe limits_for squeues.now count
         × AreTasks count (length squeues.now) (IsNewRing (length squeues.now)) (tasks_in jobs.old.items)) }
     requires lent { AreLent IsNew 0 count squeues.now (lent_to jobs.old.items) }

@@ -4,7 +4,7 @@ ghost use Rattle.shards.specs.Writing.{IsWritten};
 
 use crate::bringing::Brings;
 use crate::lanes::Lanes;
-use crate::pool::ShardPool;
+use crate::pool::{SPAN, ShardPool};
 use crate::run::run_shards;
 use shards::Written;
 use squeue_enter::Mode;
@@ -170,7 +170,7 @@ fn runs<W: Threads + Wait + Sync + Abort>(
     pool: ShardPool,
     rounds: u32,
 ) {
-    assert!(rt; pool.budget > 0 && pool.span > 0 && pool.span <= 1 << 31);
+    assert!(rt; pool.budget > 0 && pool.span > 0 && pool.span <= SPAN);
     assert!(rt; rings > 0 && rings < 64 && pool.parcels > 0 && pool.parcels < 1000);
     let shared = nothing(alloc, squeues).expect(rt, "what is shared");
     let writers = writers(alloc, rings, rounds).expect(rt, "writers");
@@ -199,7 +199,7 @@ fn all_that_rings_send_is_written(rt: HostRuntime) {
     let alloc = rt.alloc();
     for mode in [Mode::Process, Mode::NoDrain, Mode::Fill] {
         for (rings, squeues, parcels, budget, span) in [
-            (1, 1, 1, 1, 1 << 31),
+            (1, 1, 1, 1, SPAN),
             (1, 4, 2, 64, 3),
             (4, 1, 2, 8, 7),
             (3, 2, 4, 1, 1),

@@ -99,7 +99,8 @@ fn enter<R: Resident, W: Wait>(way: &Way<'_, R, W>, alloc: Global, pass: Pass, n
     requires serves { Serves R.limits way.now.squeue.now way.now.ring }
     requires at { (fed : ℕ) × (fed < 2 ^ 50) × IsAt R.limits way.now.squeue.now way.now.ring n fed pass }
     requires number { n < 2 ^ 31 }
-    ensures { (fed : ℕ) → IsAt R.limits way.now.squeue.now way.now.ring n fed pass → IsAt R.limits way.now.squeue.now way.now.ring (n + 1) (fed + 1) result }
+    ensures { (fed : ℕ) → IsAt R.limits way.now.squeue.now way.now.ring n fed pass
+        → IsAt R.limits way.now.squeue.now way.now.ring (n + 1) (fed + 1) result }
 {
     let feed = Feed { c: way.ring, n };
     let mut pass = pass;
@@ -136,7 +137,8 @@ fn renew<X: Shared + Drop, H: Wait + Drop, W: Wait>(
 ) -> Pass
     requires serves { Serves limits_for way.now.squeue.now way.now.ring }
     requires at { (n fed : ℕ) × (1 ≤ n) × (fed ≤ 2 ^ 50) × IsAt limits_for way.now.squeue.now way.now.ring n fed pass }
-    ensures { (n fed : ℕ) → 1 ≤ n → IsAt limits_for way.now.squeue.now way.now.ring n fed pass → IsAt limits_for way.now.squeue.now way.now.ring 0 fed result }
+    ensures { (n fed : ℕ) → 1 ≤ n → IsAt limits_for way.now.squeue.now way.now.ring n fed pass
+        → IsAt limits_for way.now.squeue.now way.now.ring 0 fed result }
 {
     let pass = take_out(way, alloc, pass);
     put_in(way, alloc, pass, Counted::none())

@@ -1,5 +1,4 @@
-use Rattle.std.proofs.Common.{◌≡◌, ◌<◌, ◌^◌, [], ◌∷◌, length, length-append, slice_get, refl, ap, sym, ◌∙◌, subst, arith, rules}
-use Rattle.shards.specs.Lanes.{IsLane}
+use Rattle.std.proofs.Common.{◌≡◌, [], ◌∷◌, length, length-append, slice_get, refl, ap, sym, ◌∙◌, subst, arith, rules}
 use Rattle.shards.specs.Sharing.{ends_of, shared_of}
 use Rattle.shard_rings.specs.Columns.{IsFinished}
 use Rattle.shard_rings.proofs.Columns.{finished_by, get_last, none_taken, one_taken}

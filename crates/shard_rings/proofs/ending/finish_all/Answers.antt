@@ -1,4 +1,4 @@
-use Rattle.std.proofs.Common.{◌≡◌, ◌<◌, ◌≤◌, ◌∷◌, [], List, length, length-append, reverse, refl, ap, sym, ◌∙◌, subst, arith, rules}
+use Rattle.std.proofs.Common.{◌≡◌, ◌∷◌, [], length, length-append, reverse, refl, ap, sym, ◌∙◌, subst, arith, rules}
 use Rattle.std.proofs.lemmas.List.{length-reverse, reverse-append}
 use Rattle.shard_rings.specs.declared.run.ServedShard.{ServedShard}
 use Rattle.shard_rings.specs.Columns.{AreEnded}

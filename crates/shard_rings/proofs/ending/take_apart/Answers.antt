@@ -1,6 +1,5 @@
-use Rattle.std.proofs.Common.{◌≡◌, ◌+◌, ◌≤◌, ◌∷◌, ◌++◌, [], All, length, length-append, map, reverse, refl, ap, sym, ◌∙◌, subst, arith, rules}
+use Rattle.std.proofs.Common.{◌≡◌, ◌∷◌, ◌++◌, [], length, length-append, map, reverse, ap, ◌∙◌, arith, rules}
 use Rattle.std.proofs.lemmas.List.{append-nil, length-map}
-use Rattle.squeue_serve.specs.declared.jobs.Job.{Job}
 use Rattle.squeue_serve.specs.Lending.{tasks_in}
 use Rattle.shard_rings.specs.declared.run.RingTask.{RingTask}
 use Rattle.shard_rings.specs.Columns.{rings_in}

@@ -1,4 +1,4 @@
-use Rattle.std.proofs.Common.{◌≡◌, ◌<◌, Some, length, slice_get, refl, sym, ◌∙◌, subst, arith}
+use Rattle.std.proofs.Common.{◌≡◌, ◌<◌, Some, length, slice_get, refl, sym, ◌∙◌, arith}
 use Rattle.squeue_rings.proofs.Slots.{got_at}
 use Rattle.shard_rings.proofs.Finishing.{all_at, none_taken_yet, one_more_taken}
 use Rattle.shard_rings.proofs.ending.take_column.Goals as goal

@@ -1,4 +1,4 @@
-use Rattle.std.proofs.Common.{◌≡◌, All, length, vec_capacity}
+use Rattle.std.proofs.Common.{◌≡◌, vec_capacity}
 use Rattle.shard_rings.specs.Columns.{AreTaken}
 use Rattle.shard_rings.proofs.ending.take_column.Given as goal
 

@@ -1,4 +1,4 @@
-use Rattle.std.proofs.Common.{◌≡◌, ◌∷◌, ◌++◌, ◌^◌, [], ap, ◌∙◌, replicate}
+use Rattle.std.proofs.Common.{◌∷◌, ◌++◌, ◌^◌, [], ap, ◌∙◌}
 use Rattle.std.proofs.lemmas.List.{map-append, replicate_more}
 use Rattle.squeue_state.specs.Behind.{ever}
 use Rattle.squeue_state.specs.declared.guarded.Life.{Life}

@@ -1,7 +1,6 @@
-use Rattle.std.proofs.Common.{◌≡◌, ℕ, List, [], ◌∷◌, ◌+◌, ◌≤◌, ◌<◌, Some, length, length-append, map, replicate, reverse, slice_get, refl, ap, sym, ◌∙◌, subst, arith, rules}
-use Rattle.std.proofs.lemmas.List.{length-map, length-replicate, reverse-append, reverse-reverse}
+use Rattle.std.proofs.Common.{◌≡◌, [], ◌∷◌, length, length-append, reverse, refl, ap, sym, ◌∙◌, subst, arith, rules}
+use Rattle.std.proofs.lemmas.List.{length-map, length-replicate, reverse-reverse}
 use Rattle.squeue_state.specs.Behind.{ever}
-use Rattle.squeue_state.specs.declared.guarded.Life.{Life}
 use Rattle.squeue_serve.specs.Places.{IsNew}
 use Rattle.squeue_serve.specs.Lending.{AreLent, lent_to}
 use Rattle.squeue_rings.proofs.Lends.{fits, none_yet, one_more}
@@ -10,7 +9,7 @@ use Rattle.shards.specs.Numbering.{ring_limits}
 use Rattle.shards.specs.Sharing.{StandsFor, limits_for, rings_of}
 use Rattle.shard_rings.specs.Making.{IsMadeOf, life}
 use Rattle.shard_rings.proofs.Finishing.{all_at}
-use Rattle.shard_rings.proofs.Made.{SoFar, all_made, few_asks, few_feeds, few_made, is_made_of, lives_count, next, next_at, next_few, none_made, one_made, stands_empty}
+use Rattle.shard_rings.proofs.Made.{SoFar, all_made, few_asks, few_feeds, is_made_of, lives_count, next, next_at, next_few, none_made, one_made, stands_empty}
 use Rattle.shard_rings.proofs.making.make_all.Goals as goal
 
 pub residents-init : goal.residents-init

@@ -1,5 +1,4 @@
-use Rattle.std.proofs.Common.{◌≡◌, ℕ, ◌+◌, List, length, sym, subst, arith}
-use Rattle.shard_rings.specs.declared.run.Task.{Task}
+use Rattle.std.proofs.Common.{◌≡◌, ℕ, ◌+◌, length, sym, subst, arith}
 use Rattle.shard_rings.specs.Making.{AreTasks, IsLaid}
 use Rattle.shard_rings.proofs.Laying.{one_work}
 use Rattle.shard_rings.proofs.making.tasks_of.Goals as goal

@@ -1,5 +1,4 @@
-use Rattle.std.proofs.Common.{◌≡◌, ◌+◌, ◌*◌, ◌≤◌, [], All, List, IfOk, length, map, reverse, refl, ap, sym, ◌∙◌, subst, arith}
-use Rattle.std.proofs.lemmas.List.{length-map}
+use Rattle.std.proofs.Common.{◌≡◌, All, length, reverse, refl, ap, sym, ◌∙◌, subst, arith}
 use Rattle.std.proofs.lemmas.Result.{IfOk-weaker}
 use Rattle.squeue_serve.specs.Lending.{AreLent, lent_to, tasks_in}
 use Rattle.squeue_serve.specs.Places.{IsNew, MayEnd}
@@ -7,8 +6,7 @@ use Rattle.squeue_rings.proofs.Starts.{from_ok}
 use Rattle.shards.specs.Sharing.{limits_for}
 use Rattle.shard_rings.specs.Columns.{AreEnded, MayFinishAll, rings_in}
 use Rattle.shard_rings.specs.Jobs.{AllServe, HasBroughtOf}
-use Rattle.shard_rings.specs.Making.{AreMadeOf, AreTasks, HasBegun, IsNewRing}
-use Rattle.shard_rings.specs.Runs.{HasRun}
+use Rattle.shard_rings.specs.Making.{AreMadeOf, AreTasks, IsNewRing}
 use Rattle.shard_rings.proofs.Begun.{many_jobs, many_residents, moved, new_rings, some_room, they_serve, they_stand}
 use Rattle.shard_rings.proofs.Whole.{has_run, may_finish, rows_full}
 use Rattle.shard_rings.proofs.run.run_made.Goals as goal

@@ -1,4 +1,4 @@
-use Rattle.std.proofs.Common.{◌≡◌, ◌++◌, All, drop, take, IfOk, Ok, length, sym, ◌∙◌, ap, subst, arith}
+use Rattle.std.proofs.Common.{◌++◌, All, drop, take, IfOk, length, sym, ◌∙◌, ap, subst, arith}
 use Rattle.squeue_serve.specs.Lending.{lent_to, tasks_in}
 use Rattle.squeue_rings.proofs.Starts.{from_ok}
 use Rattle.shards.specs.Sharing.{limits_for}

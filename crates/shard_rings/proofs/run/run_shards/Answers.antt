@@ -1,7 +1,7 @@
-use Rattle.std.proofs.Common.{◌≡◌, ℕ, ◌*◌, ◌≤◌, ◌<◌, ◌^◌, length, ap, sym, ◌∙◌, subst, arith}
+use Rattle.std.proofs.Common.{◌≡◌, ℕ, ◌*◌, ◌≤◌, length, sym, ◌∙◌, subst, arith}
 use Rattle.squeue_serve.specs.Lending.{HaveRoom, tasks_in}
 use Rattle.histories.specs.Limits.{most_feeds}
-use Rattle.shard_rings.specs.Making.{AreEnds, HasBegun}
+use Rattle.shard_rings.specs.Making.{AreEnds}
 use Rattle.shard_rings.specs.Rooms.{HasRoom}
 use Rattle.shard_rings.proofs.Begun.{has_begun}
 use Rattle.shard_rings.proofs.run.run_shards.Goals as goal

@@ -1,4 +1,4 @@
-use Rattle.std.proofs.Common.{◌≡◌, ℕ, ◌<◌, ◌^◌}
+use Rattle.std.proofs.Common.{ℕ, ◌<◌, ◌^◌}
 use Rattle.shard_rings.specs.Knowing.{IsAt}
 use Rattle.shard_rings.proofs.way.enter.Given as goal
 
