@@ -56,13 +56,7 @@ fn write_all<L: Lanes<Parcel = Vec<u8>>>(
 }
 
 // Writes a byte to one squeue, where there is room for it.
-fn write<L: Lanes<Parcel = Vec<u8>>>(
-    number: u8,
-    alloc: Global,
-    lanes: &mut L,
-    q: usize,
-    byte: u8,
-)
+fn write<L: Lanes<Parcel = Vec<u8>>>(number: u8, alloc: Global, lanes: &mut L, q: usize, byte: u8)
     requires ready { L.ready lanes.old }
     requires range { q < length (L.sent lanes.old) }
     ensures ready { L.ready lanes.new }
@@ -99,12 +93,7 @@ fn make_room<L: Lanes<Parcel = Vec<u8>>>(
 }
 
 // Takes a parcel that is out, where there is one.
-fn take<L: Lanes<Parcel = Vec<u8>>>(
-    writer: &mut Writer,
-    alloc: Global,
-    lanes: &mut L,
-    q: usize,
-)
+fn take<L: Lanes<Parcel = Vec<u8>>>(writer: &mut Writer, alloc: Global, lanes: &mut L, q: usize)
     requires ready { L.ready lanes.old }
     requires range { q < length (L.sent lanes.old) }
     ensures ready { L.ready lanes.new }
@@ -119,12 +108,7 @@ fn take<L: Lanes<Parcel = Vec<u8>>>(
 }
 
 // Takes all parcels that are out.
-fn take_all<L: Lanes<Parcel = Vec<u8>>>(
-    writer: &mut Writer,
-    alloc: Global,
-    lanes: &mut L,
-    q: usize,
-)
+fn take_all<L: Lanes<Parcel = Vec<u8>>>(writer: &mut Writer, alloc: Global, lanes: &mut L, q: usize)
     requires ready { L.ready lanes.old }
     requires range { q < length (L.sent lanes.old) }
     ensures ready { L.ready lanes.new }
@@ -191,13 +175,19 @@ fn runs<W: Threads + Wait + Sync + Abort>(
     let shared = nothing(alloc, squeues).expect(rt, "what is shared");
     let writers = writers(alloc, rings, rounds).expect(rt, "writers");
     let (done, left) = run_shards(rt, alloc, &pool, shared, writers).expect(rt, "a run");
-    assert_eq!(rt; (done.len(), left.len()), (usize::from(rings), usize::from(squeues)));
+    assert_eq!(rt;
+        (done.len(), left.len()),
+        (usize::from(rings), usize::from(squeues))
+    );
     for writer in &done {
         assert!(rt; !writer.unwritten);
     }
     for squeue in &left {
         let bytes = squeue.shared.bytes();
-        assert_eq!(rt; bytes.len() as u64, u64::from(rings) * u64::from(rounds) * 2);
+        assert_eq!(rt;
+            bytes.len() as u64,
+            u64::from(rings) * u64::from(rounds) * 2
+        );
         for p in 0..rings {
             assert!(rt; is_in_order(bytes, p, rounds));
         }
