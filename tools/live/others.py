@@ -35,6 +35,9 @@ def need_one(*packages):
     raise Missing(packages[0])
 
 
+FORWARDS = Path("/proc/sys/net/ipv4/ip_forward")
+
+
 class Lwip:
     """lwIP's TCP on a TUN device of its own, as a context. This namespace's kernel forwards between that device and the wire."""
     def __enter__(self):
@@ -43,13 +46,15 @@ class Lwip:
         self.folder = tempfile.TemporaryDirectory()
         self.program = f"{self.folder.name}/lwip_client"
         subprocess.run(["cc", "-O2", "-o", self.program, HERE / "lwip_client.c", f"-I{LWIP_HEADERS}", "-llwip"], check=True)
-        Path("/proc/sys/net/ipv4/ip_forward").write_text("1")
+        FORWARDS.write_text("1")
         self.device, self.first = tun.open_device("lwip0"), 40000
         tun.set_up("lwip0", LWIP_NETWORK)
         return self
 
     def __exit__(self, *_):
         os.close(self.device)
+        # (a kernel that forwards answers for hosts that aren't there)
+        FORWARDS.write_text("0")
         self.folder.cleanup()
 
     def exchange(self, text, port=7, count=1, quiet=200, timeout=120):
