@@ -1,0 +1,12 @@
+pub mod Apart
+pub mod Beginning
+pub mod Begun
+pub mod Closing
+pub mod Columns
+pub mod Finishing
+pub mod Knowing
+pub mod Laying
+pub mod Made
+pub mod Ready
+pub mod Rows
+pub mod Whole

@@ -1,0 +1,14 @@
+use Rattle.std.proofs.Common.{◌≡◌, length}
+use Rattle.shard_rings.proofs.tests.WriterBrings.bring.Given as goal
+
+abbrev pub invariant-rounds : goal.invariant-rounds
+invariant-rounds g l = record { ready : g.L.Lanes.ready l.lanes; origin : g.L.Lanes.origin l.lanes ≡ g.L.Lanes.origin l.initial.lanes; number : l.self.number ≡ l.initial.self.number }
+
+abbrev pub invariant-lanes : goal.invariant-lanes
+invariant-lanes g l =
+    record {
+      ready : g.L.Lanes.ready l.lanes;
+      origin : g.L.Lanes.origin l.lanes ≡ g.L.Lanes.origin l.initial.lanes;
+      number : l.self.number ≡ l.initial.self.number;
+      lanes : length (g.L.Lanes.sent l.lanes) ≡ length (g.L.Lanes.sent l.initial.lanes);
+    }

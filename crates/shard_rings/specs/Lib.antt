@@ -1,0 +1,9 @@
+pub mod Cells
+pub mod Columns
+pub mod Jobs
+pub mod Knowing
+pub mod Making
+pub mod Rooms
+pub mod Rows
+pub mod Runs
+pub mod Tasks
