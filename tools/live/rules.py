@@ -55,13 +55,15 @@ def blind(program):
 
 
 def fresh(program):
-    """The count of retransmissions is a connection's own: after eight connections with eight each, the ninth's text is sent again too."""
+    """The count of retransmissions is a connection's own: after eight connections with eight each, the ninth's text is sent again too. Where no round
+    trip is measured, the timeout stays doubled (RFC 6298, 5.5 and 5.7)."""
     with Framed(program) as server:
         client = Client(server)
         for _ in range(9):
-            for _ in range(8):
+            for doubled in range(8):
                 client.send(b"x")
-                again, = server.step(after=SECOND)
+                assert server.step(after=min(60, 2 ** doubled) * SECOND - 1) == [], doubled
+                again, = server.step(after=1)
                 assert again.text == b"x", again
                 client.ack += 1
                 server.step(client.segment(client.seq, client.ack, ACK))
