@@ -143,9 +143,15 @@ def rows():
         runs = [run.split() for run in runs if run.startswith("sqlive frames")]
         plain = all(line.startswith("hex ") for line in fields.get("input", []))
         if runs and plain and "status" not in fields and not {"reads", "failing_reads", "failing_writes"} & set(fields):
-            frames = b"".join(bytes.fromhex(line[4:].replace(" ", "")) for line in fields.get("input", []))
+            frames = b"".join(bytes_of(word) for line in fields.get("input", []) for word in line.split()[1:])
             found.append((fields["row"][0], runs[0], frames, [bytes.fromhex(line.split()[1]) for line in fields.get("out", [])]))
     return found
+
+
+def bytes_of(word):
+    """What a word of a row says: bytes, or N*BYTE for N of one."""
+    count, _, byte = word.rpartition("*")
+    return bytes.fromhex(byte) * int(count or 1)
 
 
 def server_of(sqtcp, words):
