@@ -1,5 +1,6 @@
 #!/usr/bin/python3
 """Linux's own echo in the place of `sqlive frames`: frames by standard input and output, and the kernel of a namespace of its own between them."""
+import contextlib
 import ipaddress
 import os
 import select
@@ -45,7 +46,8 @@ def main():
                 if len(came) < HEAD.size + length:
                     break
                 if length:
-                    os.write(device, came[HEAD.size:HEAD.size + length])
+                    with contextlib.suppress(OSError):
+                        os.write(device, came[HEAD.size:HEAD.size + length])
                 del came[:HEAD.size + length]
 
 
