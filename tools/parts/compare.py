@@ -109,8 +109,8 @@ def compare_life(one, found, beside, offloaded, until):
         compare_handshake(part, shake, found)
         if n == beside_us and ours is not None:
             one.trip = shake.trip
-            one.parted = parting(part, shake, Handshake([syn], ours))
-            beside_reference(one, part, watch, (shake, Handshake([syn], ours)), beside, found)
+            one.parted = parting(part, shake, Handshake([syn], [ours]))
+            beside_reference(one, part, watch, (shake, Handshake([syn], [ours])), beside, found)
     one.state = watch.state
     compare_end(one, watch, found)
 
@@ -151,9 +151,16 @@ def handshakes(life):
                 shakes.append((asked, s))
                 since = {}
     ends = [(asked[0].record, answer.record) for asked, answer in shakes[1:]] + [(1 << 63, 1 << 63)]
-    return [(replace(life, client=[s for s in life.client if asked[0].record <= s.record < client_end],
-                     server=[s for s in life.server if answer.record <= s.record < server_end], irs=asked[0].seq), Handshake(asked, answer))
-            for (asked, answer), (client_end, server_end) in zip(shakes, ends)]
+    parts = [replace(life, client=[s for s in life.client if asked[0].record <= s.record < client_end],
+                     server=[s for s in life.server if answer.record <= s.record < server_end], irs=asked[0].seq)
+             for (asked, answer), (client_end, server_end) in zip(shakes, ends)]
+    return [(part, handshake(part, answer)) for part, (_, answer) in zip(parts, shakes)]
+
+
+def handshake(life, answer):
+    """What belongs to the handshake whose first answer this is."""
+    settled = next((s.at for s in life.client if s.record > answer.record and not opens(s)), None)
+    return Handshake([s for s in life.client if opens(s) and s.seq == life.irs], [s for s in life.server if accepts(s) and s.seq == answer.seq], settled)
 
 
 def watched(life, shake, found, segments, offloaded, until):

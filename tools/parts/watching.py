@@ -8,8 +8,9 @@ from statistics import median
 
 from capture import ACK, FIN, RST, SYN
 from drawing import plural, seconds
-from segments import (CWR, ECE, ETHERNET_MOST, MSS, SACK, SACK_PERMITTED, SCALE, TIMESTAMP, URG, USUAL_MSS, all_flags, header, option_text, options, room,
-                      text)
+from findings import NEEDS_SCALE
+from segments import (CWR, ECE, ETHERNET_MOST, MSS, SACK, SACK_PERMITTED, SCALE, TIMESTAMP, URG, USUAL_MSS, accepts, all_flags, header, opens, option_text,
+                      options, room, text)
 from timeseq import near
 
 LATE = 10_000               # microseconds beyond the way to the capture's place and back, from which an acknowledgement counts as delayed
@@ -23,19 +24,34 @@ PAGE = 512
 
 
 class Handshake:
-    """What both sides agreed on, read off the SYN, as often as it was sent, and its first SYN,ACK."""
+    """What both sides agreed on, read off the SYN and its SYN,ACK.
 
-    def __init__(self, syns, answer):
-        self.syns, self.answer = syns, answer
-        asked, offered = {kind: value for syn in syns for kind, value in options(syn).items()}, options(answer)
-        self.asked, self.offered = asked, offered
-        self.scaled = SCALE in asked and SCALE in offered
-        self.client_shift = min(asked[SCALE][0], 14) if self.scaled else 0
-        self.server_shift = min(offered[SCALE][0], 14) if self.scaled else 0
-        self.stamped = TIMESTAMP in asked and TIMESTAMP in offered
-        self.client_takes = int.from_bytes(asked[MSS], "big") if MSS in asked else USUAL_MSS
-        self.server_takes = int.from_bytes(offered[MSS], "big") if MSS in offered else USUAL_MSS
-        self.trip = max(0, answer.at - syns[-1].at)
+    Which of several each side took isn't known: what they say otherwise isn't judged. `syns` are those before the first SYN,ACK.
+    """
+
+    def __init__(self, syns, answers, settled=None):
+        self.all_syns, self.answers, self.answer = syns, answers, answers[0]
+        self.syns = [s for s in syns if s.record < self.answer.record] or syns[:1]
+        asks, offers = [options(s) for s in syns], [options(s) for s in answers]
+        self.asked, self.offered = {kind: value for held in asks for kind, value in held.items()}, offers[0]
+        shifts = [{scale(held) for held in side} for side in (asks, offers)]
+        self.scaled = all(side != {None} for side in shifts)
+        self.client_shift, self.server_shift = (max(shift or 0 for shift in side) if self.scaled else 0 for side in shifts)
+        self.unsure = self.scaled and any(len(side) > 1 for side in shifts)
+        self.stamped = all(TIMESTAMP in held for held in asks + offers)
+        self.takes_least, self.client_takes = min(map(takes, asks)), max(map(takes, asks))
+        self.server_takes = max(map(takes, offers))
+        self.trip = max(0, self.answer.at - self.syns[-1].at)           # from the capture's place to the server and back
+        self.back = max(0, settled - self.answer.at) if settled else 0  # and to the client and back
+
+
+def scale(held):
+    return min(held[SCALE][0], 14) if SCALE in held else None
+
+
+def takes(held):
+    """The maximum segment size that options name, or stand for without a name."""
+    return int.from_bytes(held[MSS], "big") if MSS in held else USUAL_MSS
 
 
 def judge_timeouts(sent, last, found):
@@ -57,6 +73,8 @@ class Watch:
         self.life, self.shake, self.found, self.offloaded, self.until = life, shake, found, offloaded, until
         self.incoming, self.outgoing = Incoming(self), Outgoing(self)
         self.state = "LISTEN"
+        if shake.unsure:
+            found.unsure.update(dict.fromkeys(NEEDS_SCALE, "the SYNs differ"))
         self.client_fin = self.server_fin = None
         self.reset_by_client = None
         self.settled_at = None          # when the client acknowledged the server's SYN
@@ -136,7 +154,7 @@ class Watch:
         if TIMESTAMP in held and TIMESTAMP not in self.shake.asked and not flags & SYN:
             found.add("timestamps unasked", s, "yes", "none")
         if self.shake.stamped and TIMESTAMP not in held and not flags & (RST | SYN):
-            found.add("timestamp missing", s, "none", "none (nor were they agreed on)")
+            found.add("timestamp missing", s, "none", "in each segment, as agreed")
 
     def end(self):
         self.incoming.end()
@@ -389,7 +407,8 @@ class Outgoing:
         self.selected = 0               # the greatest end of what the client has beyond a gap, by selective acknowledgements
         self.closed_at, self.probes, self.empty_probes, self.closed = None, [], [], []
         self.again = []
-        self.large = []                 # segments larger than the client takes
+        self.large = []                 # segments larger than the client takes, by the SYN that takes least
+        self.too_large = False          # one of them is so by each SYN
         self.past = None                # the greatest edge of the client's window that a text went past, and when
         self.heard_at = 0
 
@@ -447,8 +466,9 @@ class Outgoing:
 
     def judge_size(self, s):
         beside = (header(s)[12] >> 2 & 60) - 20
-        if s.length + beside > self.shake.client_takes:
-            self.large.append((s, f"{s.length} bytes and {beside} of options, the client takes {self.shake.client_takes}"))
+        if s.length + beside > self.shake.takes_least:
+            self.too_large = self.too_large or s.length + beside > self.shake.client_takes
+            self.large.append((s, f"{s.length} bytes and {beside} of options, the other side takes {self.shake.takes_least}"))
 
     def judge_room(self, s, lo, hi):
         if self.closed_at is not None and s.at > self.closed_at.at + LATE and (s.length == 1 or hi <= self.top):
@@ -497,6 +517,8 @@ class Outgoing:
             self.found.sure.add("past the window")
         offloaded = self.watch.offloaded or any(len(s.datagram) > ETHERNET_MOST for s in self.watch.life.client + self.watch.life.server)
         self.found.offloaded = self.found.offloaded or offloaded
+        if not self.too_large:
+            self.found.unsure["larger than the client takes"] = "the SYNs differ"
         for s, words in self.large:
             self.found.add("larger than a packet" if offloaded else "larger than the client takes", s, words, "")
         last = {near(s.seq, self.base): s for s in self.again}

@@ -196,6 +196,10 @@ CONTROLS = {
     "the answer to the first of two SYNs": lambda: Talk().up(SYN, options=MSS + SCALED).up(SYN, seq=500_000, options=MSS).down(
         SYN | ACK, options=MSS + SCALED, ack=1).up(),
     "a SYN without options behind one that has them": lambda: Talk().up(SYN, options=MSS + SCALED).up(SYN, seq=0).down(SYN | ACK, options=MSS + SCALED).up(),
+    "a SYN again without timestamps": lambda: opened(asked=MSS + STAMPED, offered=MSS + STAMPED).up(SYN, seq=0, options=MSS, wait=SECOND).down(
+        SYN | ACK, seq=0, options=MSS).up().echo().close(),
+    "a SYN again that names a smaller size": lambda: Talk().up(SYN, options=MSS).up(SYN, seq=0, options=b"\x02\x04\x02\x18", wait=SECOND).down(
+        SYN | ACK, options=MSS).up().echo(b"x" * 1_000).close(),
     "a text that the wire spoils, and that is sent again": lambda: texts().up(ACK | PSH, b"hello", wrong=True).up(
         ACK | PSH, b"world").down(ack=1).up(ACK | PSH, b"hello", seq=1, wait=SECOND * 6 // 10).down(),
     "acknowledgements that the wire spoils": lambda: texts().up(ACK | PSH, b"one").down(wrong=True).up(ACK | PSH, b"two", wait=SECOND * 7 // 10).down().up(
