@@ -72,7 +72,7 @@ KINDS = kinds(
     ("boundaries", "choice", "RFC 9293, 3.7 and 3.9.1.2 (SHLD-28)", "How a stream is cut into segments is free."),
     ("larger than the client takes", "MUST", "RFC 9293, 3.7.1 (MUST-15, MUST-16)", "Text and options must fit the client's maximum segment size, 536 where it named none. (Where its SYNs differ, the largest.)"),
     ("larger than a packet", "unjudged", "RFC 9293, 3.7.1", "The capture was taken before the card cut the segment (segmentation offload), or behind one that joins."),
-    ("past the window", "MUST", "RFC 9293, 3.8.6 and 3.10.2", "A sender may send what the client's window has room for, and one byte to probe a window of 0. (Said where the client takes nothing of it.)"),
+    ("past the window", "MUST", "RFC 9293, 3.8.6 and 3.10.2", "A sender may send what the client's window has room for, and one byte to probe a window of 0. (MUST only where the client's next segments show no more room, and it never acknowledges that text, or not before it goes again.)"),
     ("PSH", "choice", "RFC 9293, 3.9.1.2 (MAY-15, MUST-61)", "The last segment of what an application sends has PSH, where SEND can't say so itself."),
     ("FIN with text", "choice", "RFC 9293, 3.10.4", "FIN may go with the last text or alone."),
     ("FIN", "service", "RFC 9293, 3.6", "When a server closes is its application's matter."),

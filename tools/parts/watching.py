@@ -392,6 +392,17 @@ class Closed:
     waited: bool = False        # text went as soon as it was open, and the client had sent none: so it was there before
 
 
+@dataclass
+class Past:
+    """Texts beyond the client's window, from the first one until an acknowledgement goes beyond that window's edge."""
+    edge: int
+    end: int                    # of the first one
+    at: int                     # when that went
+    texts: list                 # (segment, end, edge) of each
+    refused: int = 0            # how many segments the client sent behind it that have no more room, and don't take it
+    again: bool = False         # what was beyond the edge went again behind them
+
+
 class Outgoing:
     """The server's direction: its text, and the client's acknowledgements and windows."""
 
@@ -409,12 +420,11 @@ class Outgoing:
         self.again = []
         self.large = []                 # segments larger than the client takes, by the SYN that takes least
         self.too_large = False          # one of them is so by each SYN
-        self.past = None                # the greatest edge of the client's window that a text went past, and when
-        self.heard_at = 0
+        self.past, self.past_surely, self.past_perhaps = None, [], []      # Past; what of the texts was refused, and what not
 
     def heard(self, s):
         """A segment of the client."""
-        self.last_text, self.heard_at = s.at if s.length else self.last_text, s.at
+        self.last_text = s.at if s.length else self.last_text
         if not s.has(ACK):
             return
         ack = near(s.ack, self.base)
@@ -425,9 +435,20 @@ class Outgoing:
         self.selected = max([self.selected, *(near(int.from_bytes(blocks[n + 4:n + 8], "big"), self.base) for n in range(0, len(blocks) - 7, 8))])
         edge = ack + now
         self.edge = edge if self.edge is None else max(self.edge, edge)
+        if self.past:
+            self.note_refused(s, ack, edge)
         if ack >= self.heard_ack:
             self.heard_ack, self.window = ack, now
             self.note_closed(s, ack, now)
+
+    def note_refused(self, s, ack, edge):
+        """A client that knew of a wider window would announce it still, and one that took the text would acknowledge it before it goes again."""
+        past = self.past
+        if ack > past.edge:
+            (self.past_surely if past.refused > 1 and past.again else self.past_perhaps).extend(past.texts)
+            self.past = None
+        elif ack >= self.heard_ack and edge < past.end and s.at - past.at >= self.shake.back:
+            past.refused += 1
 
     def note_closed(self, s, ack, now):
         if now == 0 and self.closed_at is None:
@@ -473,9 +494,11 @@ class Outgoing:
     def judge_room(self, s, lo, hi):
         if self.closed_at is not None and s.at > self.closed_at.at + LATE and (s.length == 1 or hi <= self.top):
             self.probes.append(s)
+        if self.past and self.past.refused and lo <= self.past.edge < hi:
+            self.past.again = True
         if self.edge is not None and hi > self.edge and not (s.length == 1 and lo <= self.edge):
-            self.found.add("past the window", s, f"up to {hi}, the window ends at {self.edge}", "")
-            self.past = self.edge, s.at
+            self.past = self.past or Past(self.edge, hi, s.at, [])
+            self.past.texts.append((s, hi, self.edge))
 
     def judge_again(self, s, lo, hi):
         before = self.last_sent.get(lo)
@@ -513,8 +536,12 @@ class Outgoing:
         missing = self.length() - len(self.stream.whole())
         if missing > 0:
             self.found.add("text isn't captured", None, f"{plural(missing, 'byte')} of the server, which the client acknowledged", "")
-        if self.past and self.heard_at > self.past[1] and self.heard_ack <= self.past[0]:       # the client took nothing of it, so it had opened no more
+        if self.past:
+            (self.past_surely if self.past.refused else self.past_perhaps).extend(self.past.texts)
+        if self.past_surely:
             self.found.sure.add("past the window")
+        for s, hi, edge in self.past_surely or self.past_perhaps:
+            self.found.add("past the window", s, f"up to {hi}, the window ends at {edge}", "")
         offloaded = self.watch.offloaded or any(len(s.datagram) > ETHERNET_MOST for s in self.watch.life.client + self.watch.life.server)
         self.found.offloaded = self.found.offloaded or offloaded
         if not self.too_large:

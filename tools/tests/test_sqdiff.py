@@ -89,6 +89,12 @@ def late_behind(change):
     return talk.down(ACK | PSH, b"hello", wait=SECOND * 7 // 10).up()
 
 
+def refused():
+    """An echo past the window, which is refused, and goes again once there is room; the first one is marked."""
+    return Talk(window=1_000).open().up(ACK | PSH, b"x" * 1_400).down(ACK | PSH, b"x" * 1_000).down(ACK | PSH, b"x" * 400, mark=True).up(ack=1_001, window=0).up(
+        ack=1_001, window=0)
+
+
 def swapped(talk):
     """The last two records have changed places, with their times."""
     talk.records[-2:] = talk.records[:-3:-1]
@@ -390,6 +396,14 @@ class Kinds(unittest.TestCase):
                         self.assertIn(word, told)
                     if shape == ("--json",):
                         self.assertEqual(json.loads(said.splitlines()[-1])["compared"], 0)
+
+    def test_past_the_window(self):
+        """A text that was refused breaks a MUST also where it goes again once there is room; one that the client takes without that doesn't."""
+        again = refused().up(ack=1_001, window=5_000, wait=SECOND // 2).down(ACK | PSH, b"x" * 400, seq=1_001, wait=SECOND).up(window=5_000)
+        for talk, verdict in ((again, "MUST"), (refused().up(wait=SECOND // 2), "unjudged")):
+            found, _, status = lines(talk.save(self.folder))
+            self.assertEqual([(line["verdict"], line["frame"], line["count"]) for line in found if line["kind"] == "past the window"], [(verdict, talk.marked, 1)])
+            self.assertEqual(status, int(verdict == "MUST"))
 
     def test_gaps_make_unjudged(self):
         """Where the capture lacks a text, a late acknowledgement breaks no MUST: the one that was in time may be missing too."""
