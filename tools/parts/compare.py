@@ -214,7 +214,7 @@ def judge_handshake(life, shake, found):
     if SCALE in shake.offered and shake.offered[SCALE][0] > 14:
         found.add("window scale over 14", answer, option_text(SCALE, shake.offered), "at most 14")
     again = [s for s in life.server if s.has(SYN)]
-    judge_timeouts([s.at for s in unasked(again, life.client)], again[-1], found)
+    judge_timeouts(unasked(again, life.client), found)
 
 
 def compare_handshake(life, shake, found):
@@ -236,11 +236,13 @@ def taken(client, answer):
 
 
 def unasked(answers, client):
-    """The last SYN,ACK that a SYN asked for, and those behind it that a timer sent."""
+    """The last SYN,ACK that a SYN asked for, and those behind it that a timer sent. One that follows soon answers a SYN that the wire doubled."""
     asked, out = 0, []
     for answer in answers:
         if asked < sum(s.has(SYN) and s.record < answer.record for s in client):
             asked, out = asked + 1, []
+        elif out and answer.at - out[-1].at < LATE:
+            out = []
         out.append(answer)
     return out
 

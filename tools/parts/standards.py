@@ -86,7 +86,7 @@ KINDS = kinds(
     ("checksums of the card", "unjudged", "RFC 9293, 3.1 (MUST-2)", "The capture was taken before the sender's card filled the sums in. All else is judged."),
     # What is sent again.
     ("sent again", "choice", "RFC 9293, 3.8.1; RFC 6298, 5", "What isn't acknowledged in time is sent again; the wire that was captured lost, the reference's timer is fixed."),
-    ("sent again early", "SHOULD", "RFC 6298, 2.4", "A timeout below one second should be rounded up to it. (RFC 8985 allows a probe after two round trips.)"),
+    ("sent again early", "SHOULD", "RFC 6298, 2.4", "A timeout below one second should be rounded up to it. (But for RFC 8985's probe: the last text, once, after two round trips, where both sides permit selective acknowledgements; and a SYN,ACK below 10 ms, whose SYN the wire may have doubled.)"),
     ("no backoff", "MUST", "RFC 9293, 3.8.2 (MUST-19); RFC 6298, 5.5", "The timeout must double each time. (Said where it doesn't grow.)"),
     ("window probed", "choice", "RFC 9293, 3.8.6.1 (SHLD-29, SHLD-30)", "A window of 0 is probed first after a timeout, then at growing intervals."),
     ("window probed without text", "unjudged", "RFC 9293, 3.8.6.1 (MUST-36)", "A probe has a byte of new text or one sent again; an empty segment below the window draws the same answer."),

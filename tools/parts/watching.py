@@ -38,6 +38,7 @@ class Handshake:
         self.scaled = all(side != {None} for side in shifts)
         self.client_shift, self.server_shift = (max(shift or 0 for shift in side) if self.scaled else 0 for side in shifts)
         self.unsure = self.scaled and any(len(side) > 1 for side in shifts)
+        self.selective = any(SACK_PERMITTED in held for held in asks) and any(SACK_PERMITTED in held for held in offers)
         self.stamped = all(TIMESTAMP in held for held in asks + offers)
         self.takes_least, self.client_takes = min(map(takes, asks)), max(map(takes, asks))
         self.server_takes = max(map(takes, offers))
@@ -54,15 +55,16 @@ def takes(held):
     return int.from_bytes(held[MSS], "big") if MSS in held else USUAL_MSS
 
 
-def judge_timeouts(sent, last, found):
-    """Judges the timeouts of what was sent at these times, one after another."""
-    waits = [b - a for a, b in zip(sent, sent[1:])]
-    if any(wait < SECOND * 98 // 100 for wait in waits):
-        found.add("sent again early", last, f"after {seconds(min(waits))}", "after 1 s")
+def judge_timeouts(sent, found, least=SECOND):
+    """Judges the timeouts of segments that were sent one after another. The first wait isn't early from `least` on."""
+    waits = [b.at - a.at for a, b in zip(sent, sent[1:])]
+    early = [s for n, (s, wait) in enumerate(zip(sent[1:], waits)) if wait < (SECOND * 98 // 100 if n else min(least, SECOND * 98 // 100))]
+    if early:
+        found.add("sent again early", early[0], f"after {seconds(waits[sent.index(early[0]) - 1])}", "after 1 s")
     # Where the wire lost some of them, two waits are one: even then each is longer than the one before.
-    for before, wait in zip(waits[1:], waits[2:]):
+    for s, before, wait in zip(sent[3:], waits[1:], waits[2:]):
         if wait < before * 21 // 20 and before < 60 * SECOND:
-            found.add("no backoff", last, " then ".join(map(seconds, waits[:5])), "each twice the one before")
+            found.add("no backoff", s, " then ".join(map(seconds, waits[:5])), "each twice the one before")
             return
 
 
@@ -413,7 +415,10 @@ class Outgoing:
         self.acks = {0}                 # the client's acknowledgements, which a reset may take its number from
         self.top, self.fin = 1, None
         self.stream = Stream()
-        self.last_sent, self.timeouts = {}, {}          # by a text's first number: when it went last; when it went by timeouts, from the first on
+        self.last_sent, self.timeouts = {}, {}          # by a text's first number: what went last; what went by timeouts, from the first on
+        self.shortest, self.ends = None, {}             # the shortest way to the client and back, by texts that went once; by their ends when they went
+        self.tails = set()              # first numbers of texts that were the last ones when they went again
+        self.rewound = None             # what went again last, with all behind it
         self.doubled = {}               # by number: acknowledgements of it since it went last
         self.selected = 0               # the greatest end of what the client has beyond a gap, by selective acknowledgements
         self.closed_at, self.probes, self.empty_probes, self.closed = None, [], [], []
@@ -437,6 +442,9 @@ class Outgoing:
         self.edge = edge if self.edge is None else max(self.edge, edge)
         if self.past:
             self.note_refused(s, ack, edge)
+        went = self.ends.pop(ack, None)
+        if went is not None and not s.has(SYN):
+            self.shortest = min(s.at - went, self.shortest or s.at - went)
         if ack >= self.heard_ack:
             self.heard_ack, self.window = ack, now
             self.note_closed(s, ack, now)
@@ -505,12 +513,18 @@ class Outgoing:
         if hi <= self.top and before is not None and self.closed_at is None:
             self.again.append(s)
             self.found.wire = True
-            if self.doubled.get(lo, 0) >= 3 or lo < self.selected:
-                self.timeouts[lo] = [s.at]              # it was asked for, not timed out
+            self.ends.pop(hi, None)
+            behind = self.rewound is not None and near(self.rewound.seq, self.base) < lo and self.rewound.at >= before.at       # RFC 6298, 5.4: after a timeout all goes again
+            if self.doubled.get(lo, 0) >= 3 or lo < self.selected or behind:
+                self.timeouts[lo] = [s]                 # it was asked for, not timed out
             else:
-                self.timeouts.setdefault(lo, [before]).append(s.at)
+                self.tails |= {lo} if hi == self.top and lo not in self.timeouts else set()
+                self.timeouts.setdefault(lo, [before]).append(s)
+            self.rewound = s
+        elif before is None:
+            self.ends[hi] = s.at
         self.doubled[lo] = 0
-        self.last_sent[lo] = s.at
+        self.last_sent[lo] = s
 
     def keep(self, s, lo, hi):
         """Puts the text into the stream; what stood there must be the same, but for the one byte that a keep-alive may have (RFC 9293, 3.8.4)."""
@@ -548,10 +562,9 @@ class Outgoing:
             self.found.unsure["larger than the client takes"] = "the SYNs differ"
         for s, words in self.large:
             self.found.add("larger than a packet" if offloaded else "larger than the client takes", s, words, "")
-        last = {near(s.seq, self.base): s for s in self.again}
+        trips = 2 * (self.shake.trip + min(self.shake.back, self.shortest or self.shake.back))
         for lo, sent in self.timeouts.items():
-            if lo in last:
-                judge_timeouts(sent, last[lo], self.found)
+            judge_timeouts(sent, self.found, trips if lo in self.tails and self.shake.selective else SECOND)
         for one in self.closed:
             if one.opened - one.by.at >= LONG_CLOSED and not one.probes and one.waited:
                 self.found.add("window not probed", one.by, f"closed for {seconds(one.opened - one.by.at)}", "probed after 1 s")

@@ -256,6 +256,12 @@ CONTROLS = {
     "a segment asked for by a selective acknowledgement": lambda: opened(asked=MSS + SACKED, offered=MSS + SACKED).up(ACK | PSH, b"hello").down(
         ACK | PSH, b"hello").up(ACK | PSH, b"world").down(ACK | PSH, b"world").up(ack=1, options=b"\1\1\5\x0a" + (900_006).to_bytes(4, "big") + (
             900_011).to_bytes(4, "big")).down(ACK | PSH, b"hello", seq=1).up(),
+    "a probe for the tail after two round trips": lambda: opened(asked=MSS + SACKED, offered=MSS + SACKED).up(ACK | PSH, b"hello").down(
+        ACK | PSH, b"hello").down(ACK | PSH, b"hello", seq=1, wait=500).down(ACK | PSH, b"hello", seq=1, wait=SECOND).up(),
+    "two answers to a SYN that the wire doubled": lambda: Talk().up(SYN, options=MSS).down(SYN | ACK, options=MSS).up().down(
+        SYN | ACK, options=MSS, seq=0, wait=10).up().echo().close(),
+    "all that goes again behind a timeout": lambda: Talk().open().up(ACK | PSH, b"hello").down(ACK, b"hel").up(ACK | PSH, b"world", wait=SECOND * 9 // 10).down(
+        ACK | PSH, b"lo").down(ACK, b"hel", seq=1, wait=SECOND // 10).up(ack=4).down(ACK | PSH, b"lo", seq=4).up().down(ACK | PSH, b"world").up(),
     "a segment asked for by three acknowledgements": lambda: Talk().open().up(ACK | PSH, b"hello").down(ACK | PSH, b"hello").up(ack=1).up(ack=1).up(
         ack=1).down(ACK | PSH, b"hello", seq=1).up(),
 }
@@ -404,6 +410,13 @@ class Kinds(unittest.TestCase):
             found, _, status = lines(talk.save(self.folder))
             self.assertEqual([(line["verdict"], line["frame"], line["count"]) for line in found if line["kind"] == "past the window"], [(verdict, talk.marked, 1)])
             self.assertEqual(status, int(verdict == "MUST"))
+
+    def test_the_timeout_that_is_early(self):
+        """Its frame is named, and not that of the last one."""
+        talk = Talk().open().up(ACK | PSH, b"hello").down(ACK | PSH, b"hello").down(ACK | PSH, b"hello", seq=1, wait=SECOND).down(
+            ACK | PSH, b"hello", seq=1, wait=SECOND // 5, mark=True).down(ACK | PSH, b"hello", seq=1, wait=SECOND * 3).up()
+        found, _, _ = lines(talk.save(self.folder))
+        self.assertEqual([(line["frame"], line["captured"]) for line in found if line["kind"] == "sent again early"], [(talk.marked, "after 200 ms")])
 
     def test_gaps_make_unjudged(self):
         """Where the capture lacks a text, a late acknowledgement breaks no MUST: the one that was in time may be missing too."""
