@@ -87,7 +87,7 @@ class Sides:
             judge_handshake(life, shake, found)
             watch = Watch(life, shake, found, card, until)
         else:
-            watch = Watch(Life(life.server, [], life.client, shake.answer.seq, life.irs), other, found, card, until)
+            watch = Watch(Life(life.server, [], life.client, shake.answer.seq, life.irs), other, found, card, until, SIDES[::-1])
         for segment in listed:
             watch.take(segment)
         watch.end()

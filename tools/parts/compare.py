@@ -124,7 +124,7 @@ def beside_reference(one, part, watch, shakes, beside, found):
     shake, our_shake = shakes
     if one.parted:
         found.add("parts", one.parted.segment, told(one.parted), one.parted.reference)
-        compare_text(part, watch, service_text(part, one.served.service), found, True)
+        compare_text(part, watch, service_text(part, one.served.service), found, "acknowledged what isn't captured" not in found.by_kind)
         part = one.parted.before(part)
         if not part.server:
             return

@@ -58,7 +58,7 @@ KINDS = kinds(
     ("acknowledged what wasn't sent", "MUST", "RFC 9293, 3.4 and 3.10.7.4", "An acknowledgement tells the next number that is expected. Behind the other side's FIN there is none."),
     ("acknowledged before it came", "MUST", "RFC 9293, 3.4", "An acknowledgement of X says that all before X was received."),
     ("acknowledged what isn't captured", "unjudged", "RFC 9293, 3.4", "The capture has gaps, or the server acknowledges what never came. What needs a whole capture isn't judged."),
-    ("text isn't captured", "unjudged", "RFC 9293, 3.4", "The client acknowledged text of the server which the capture lacks. What needs a whole capture isn't judged."),
+    ("text isn't captured", "unjudged", "RFC 9293, 3.4", "The other side acknowledged text which the capture lacks. What needs a whole capture isn't judged."),
     ("acknowledgement went back", "unjudged", "RFC 9293, 3.10.7.4", "RCV.NXT never falls; two acknowledgements may have changed places on the way. What needs their order isn't judged."),
     ("not acknowledged", "unjudged", "RFC 9293, 3.8.6.3", "The capture may end too early, or lack the acknowledgement."),
     # Windows.

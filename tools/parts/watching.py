@@ -71,8 +71,9 @@ def judge_timeouts(sent, found, least=SECOND):
 class Watch:
     """The captured connection in order: what the client sent and had room for, what the server acknowledged and sent."""
 
-    def __init__(self, life, shake, found, offloaded, until):
+    def __init__(self, life, shake, found, offloaded, until, sides=("server", "client")):
         self.life, self.shake, self.found, self.offloaded, self.until = life, shake, found, offloaded, until
+        self.mine, self.other = sides               # whose side is watched, and who is at its other end
         self.incoming, self.outgoing = Incoming(self), Outgoing(self)
         self.state = "LISTEN"
         if shake.unsure:
@@ -110,6 +111,8 @@ class Watch:
             return
         if s.has(SYN):
             self.incoming.syn(s)
+            if s.length:
+                self.incoming.brought(s)
             if s.has(ACK):              # the other side is a server: its window holds from here
                 self.outgoing.heard(s)
             return
@@ -198,18 +201,18 @@ class Incoming:
 
     def brought(self, s):
         """A segment of the client."""
-        lo = near(s.seq, self.irs)
+        lo = near(s.seq, self.irs) + s.has(SYN)
         hi = lo + s.length
         if s.has(FIN):
-            self.early_ones(hi + 1, s)
+            self.early_ones(lo, hi + 1, s)
             self.top = max(self.top, hi + 1)
         if not s.length:
             return
         self.largest = max(self.largest, s.length)
         self.found.wire = self.found.wire or self.holds(lo, hi)
-        self.early_ones(hi, s)
+        self.early_ones(lo, hi, s)
         self.note_again(lo, hi)
-        if hi > self.acked and (self.edge is None or hi <= self.edge) and not self.holds(lo, hi) and len(self.waiting) < MOST_HELD:
+        if hi > self.acked and not s.has(SYN) and (self.edge is None or hi <= self.edge) and not self.holds(lo, hi) and len(self.waiting) < MOST_HELD:
             self.waiting.append(Waiting(s, hi, None))
         if lo > self.next and self.gap is None:
             self.gap = s, self.next
@@ -219,14 +222,18 @@ class Incoming:
     def holds(self, lo, hi):
         return hi <= self.next or any(first <= lo and hi <= end for first, end in self.beyond)
 
-    def early_ones(self, hi, s):
+    def early_ones(self, lo, hi, s):
         """What this brings was acknowledged before: a fault, but where two records of about one time changed places."""
         if not self.early or hi <= self.top:
             return
         for ack, number in self.early:
-            if number <= hi and s.at - ack.at > LATE:
-                self.found.add("acknowledged before it came", ack, f"ack {number}, and byte {hi - 1} came {seconds(s.at - ack.at)} later", "")
+            if lo < number <= hi and s.at - ack.at > LATE:      # at or before `lo` it acknowledged what the capture lacks
+                self.found.add("acknowledged before it came", ack, f"ack {number:,}, and {self.last_told(number, s)} came {seconds(s.at - ack.at)} later", "")
         self.early = [(ack, number) for ack, number in self.early if number > hi]
+
+    def last_told(self, number, s):
+        """What an acknowledgement of this number has last, where the segment brings it."""
+        return "FIN" if s.has(FIN) and number > near(s.seq, self.irs) + s.length else f"byte {number - 1:,}"
 
     def note_again(self, lo, hi):
         """A text that is sent again may have been lost behind the capture, and what was sent after it waits for it."""
@@ -336,9 +343,14 @@ class Incoming:
         if 2 * self.too_late > self.judged:             # the capture may lack one that was in time, and not most of them
             self.found.sure.add("acknowledged too late")
         fin = self.watch.client_fin
-        missing = self.acked - (fin is not None and self.acked > fin) - self.next
-        if missing > 0:
-            self.found.add("acknowledged what isn't captured", self.last_ack, f"{plural(missing, 'byte')} of the client from {self.next} on", "")
+        reached, missing, first = self.acked - (fin is not None and self.acked > fin), 0, None
+        at = self.next
+        for lo, hi in [*self.beyond, (reached, reached)]:
+            if min(lo, reached) > at:
+                missing, first = missing + min(lo, reached) - at, first or at
+            at = max(at, hi)
+        if missing:
+            self.found.add("acknowledged what isn't captured", self.last_ack, f"all but {plural(missing, 'byte')} of the {self.watch.other}'s text, from {first:,} on", "")
         left = [one for one in self.waiting if one.ready is not None]
         if left and self.watch.state != "LISTEN":
             self.found.add("not acknowledged", left[0].segment, f"{plural(len(left), 'segment')} at the end", "at once")
@@ -371,6 +383,10 @@ class Stream:
             return False
         held[at:end], there[at:end] = piece, b"\1" * len(piece)
         return True
+
+    def missing(self, end):
+        """How many bytes before this place aren't there."""
+        return end - sum(sum(there[:max(0, end - PAGE * number)]) for number, (_, there) in self.pages.items())
 
     def whole(self):
         """The bytes up to the first one that is missing."""
@@ -467,12 +483,16 @@ class Outgoing:
 
     def sent(self, s):
         """A segment of the server, no reset."""
-        lo = near(s.seq, self.base)
+        lo = near(s.seq, self.base) + s.has(SYN)
         hi = lo + s.length
         if self.closed_at is not None and s.at > self.closed_at.at + LATE and not s.length and lo < self.heard_ack:
             self.empty_probes.append(s)
         if s.has(FIN) or self.fin is not None:
             self.judge_fin(s, hi)
+        if s.has(SYN) and s.length:             # RFC 7413, 4.2: what isn't taken of it goes again at once
+            self.keep(s, lo, hi)
+            self.top = max(self.top, hi)
+            return
         if not s.length:
             return
         self.note_waited(s, hi)
@@ -547,9 +567,9 @@ class Outgoing:
         self.found.add("reset with a wrong number", s, f"seq {lo}", f"seq {self.top}, or what the client acknowledged")
 
     def end(self):
-        missing = self.length() - len(self.stream.whole())
+        missing = self.stream.missing(self.length())
         if missing > 0:
-            self.found.add("text isn't captured", None, f"{plural(missing, 'byte')} of the server, which the client acknowledged", "")
+            self.found.add("text isn't captured", None, f"all but {plural(missing, 'byte')} of the {self.watch.mine}'s text, which the {self.watch.other} acknowledged", "")
         if self.past:
             (self.past_surely if self.past.refused else self.past_perhaps).extend(self.past.texts)
         if self.past_surely:

@@ -262,6 +262,10 @@ CONTROLS = {
         SYN | ACK, options=MSS, seq=0, wait=10).up().echo().close(),
     "all that goes again behind a timeout": lambda: Talk().open().up(ACK | PSH, b"hello").down(ACK, b"hel").up(ACK | PSH, b"world", wait=SECOND * 9 // 10).down(
         ACK | PSH, b"lo").down(ACK, b"hel", seq=1, wait=SECOND // 10).up(ack=4).down(ACK | PSH, b"lo", seq=4).up().down(ACK | PSH, b"world").up(),
+    "text in a SYN, which the server takes": lambda: Talk().up(SYN, b"hello", options=MSS).down(SYN | ACK, options=MSS).up(ack=1).down(
+        ACK | PSH, b"hello").up().up(ACK | PSH, b"world", wait=50_000).down(ACK | PSH, b"world").up().close(),
+    "text in a SYN, which goes again": lambda: Talk().up(SYN, b"hello", options=MSS).down(SYN | ACK, options=MSS, ack=1).up(
+        ACK | PSH, b"hello", seq=1).down(ACK | PSH, b"hello").up().close(),
     "a segment asked for by three acknowledgements": lambda: Talk().open().up(ACK | PSH, b"hello").down(ACK | PSH, b"hello").up(ack=1).up(ack=1).up(
         ack=1).down(ACK | PSH, b"hello", seq=1).up(),
 }
@@ -417,6 +421,24 @@ class Kinds(unittest.TestCase):
             ACK | PSH, b"hello", seq=1, wait=SECOND // 5, mark=True).down(ACK | PSH, b"hello", seq=1, wait=SECOND * 3).up()
         found, _, _ = lines(talk.save(self.folder))
         self.assertEqual([(line["frame"], line["captured"]) for line in found if line["kind"] == "sent again early"], [(talk.marked, "after 200 ms")])
+
+    def test_what_a_gap_lacks(self):
+        """What isn't captured is told of the side whose it is, and how much; nothing else is made of it."""
+        of = lambda found, side: {line["kind"]: line["captured"] for line in found if line["side"] == side and line["verdict"] in GRAVE and not line["why"]}
+        found, _, _ = lines(Talk().open().up(ACK | PSH, b"hello").up(ack=6).up(ACK | PSH, b"world!", ack=6, wait=50_000).down(ACK | PSH, b"world!", seq=6).up(ack=12).save(self.folder))
+        self.assertEqual(of(found, "server"), {"text isn't captured": "all but 5 bytes of the server's text, which the client acknowledged"})
+        self.assertEqual(of(found, "client"), {"acknowledged what isn't captured": "all but 5 bytes of the server's text, from 1 on"})
+        found, _, _ = lines(Talk().open().down(ACK | PSH, b"hello", ack=6).up(seq=6).up(ACK | PSH, b"world!", seq=6, wait=50_000).down(ACK | PSH, b"world!", ack=12).up(seq=12).save(self.folder))
+        self.assertEqual({kind: said for kind, said in of(found, "server").items() if kind != "parts"},
+                         {"acknowledged what isn't captured": "all but 5 bytes of the client's text, from 1 on"})
+        self.assertEqual(of(found, "client"), {"text isn't captured": "all but 5 bytes of the client's text, which the server acknowledged"})
+        self.assertNotIn("text", {line["kind"] for line in found})
+
+    def test_text_in_a_syn(self):
+        """It's captured, and no gap is in it, whether the server takes it or it goes again."""
+        for name in ("text in a SYN, which the server takes", "text in a SYN, which goes again"):
+            found, _, _ = lines(CONTROLS[name]().save(self.folder))
+            self.assertLessEqual({line["kind"] for line in found if line["verdict"] in GRAVE}, {"parts"}, found)
 
     def test_gaps_make_unjudged(self):
         """Where the capture lacks a text, a late acknowledgement breaks no MUST: the one that was in time may be missing too."""
