@@ -214,7 +214,8 @@ class Incoming:
         self.note_again(lo, hi)
         if hi > self.acked and not s.has(SYN) and (self.edge is None or hi <= self.edge) and not self.holds(lo, hi) and len(self.waiting) < MOST_HELD:
             self.waiting.append(Waiting(s, hi, None))
-        if lo > self.next and self.gap is None:
+        fin = self.watch.client_fin
+        if lo > self.next and self.gap is None and (fin is None or lo <= fin):      # behind FIN there is no text to wait for
             self.gap = s, self.next
         self.top = max(self.top, hi)
         self.fill(lo, hi, s.at)
@@ -343,7 +344,7 @@ class Incoming:
         if 2 * self.too_late > self.judged:             # the capture may lack one that was in time, and not most of them
             self.found.sure.add("acknowledged too late")
         fin = self.watch.client_fin
-        reached, missing, first = self.acked - (fin is not None and self.acked > fin), 0, None
+        reached, missing, first = self.acked if fin is None else min(self.acked, fin), 0, None
         at = self.next
         for lo, hi in [*self.beyond, (reached, reached)]:
             if min(lo, reached) > at:

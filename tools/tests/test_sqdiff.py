@@ -257,9 +257,9 @@ CONTROLS = {
         ACK | PSH, b"hello").up(ACK | PSH, b"world").down(ACK | PSH, b"world").up(ack=1, options=b"\1\1\5\x0a" + (900_006).to_bytes(4, "big") + (
             900_011).to_bytes(4, "big")).down(ACK | PSH, b"hello", seq=1).up(),
     "a probe for the tail after two round trips": lambda: opened(asked=MSS + SACKED, offered=MSS + SACKED).up(ACK | PSH, b"hello").down(
-        ACK | PSH, b"hello").down(ACK | PSH, b"hello", seq=1, wait=500).down(ACK | PSH, b"hello", seq=1, wait=SECOND).up(),
-    "two answers to a SYN that the wire doubled": lambda: Talk().up(SYN, options=MSS).down(SYN | ACK, options=MSS).up().down(
-        SYN | ACK, options=MSS, seq=0, wait=10).up().echo().close(),
+        ACK | PSH, b"hello").down(ACK | PSH, b"hello", seq=1, wait=1_500).down(ACK | PSH, b"hello", seq=1, wait=SECOND).up(),
+    "two answers to a SYN that the wire doubled": lambda: Talk().up(SYN, options=MSS).down(SYN | ACK, options=MSS, number=1).up().down(
+        SYN | ACK, options=MSS, seq=0, wait=10, number=2).up().echo().close(),
     "all that goes again behind a timeout": lambda: Talk().open().up(ACK | PSH, b"hello").down(ACK, b"hel").up(ACK | PSH, b"world", wait=SECOND * 9 // 10).down(
         ACK | PSH, b"lo").down(ACK, b"hel", seq=1, wait=SECOND // 10).up(ack=4).down(ACK | PSH, b"lo", seq=4).up().down(ACK | PSH, b"world").up(),
     "text in a SYN, which the server takes": lambda: Talk().up(SYN, b"hello", options=MSS).down(SYN | ACK, options=MSS).up(ack=1).down(
@@ -350,6 +350,8 @@ class Kinds(unittest.TestCase):
                     self.assertEqual([line["kind"] for line in server], [kind for kind, _ in wanted])
                     self.assertTrue(all(frame in (None, line["frame"]) for (_, frame), line in zip(wanted, server)), (wanted, server))
                     self.assertEqual(status, 2 if not summary["judged"] else int(any(line["verdict"] == "MUST" for line in found)))
+                    if name == "text after FIN":        # what a server does wrong is no gap that its client should acknowledge
+                        self.assertEqual([line["kind"] for line in found if line["side"] == "client"], [])
 
     def test_what_is_right_alone(self):
         """No MUST of either side, and no SHOULD of the server."""
