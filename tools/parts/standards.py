@@ -42,6 +42,7 @@ KINDS = kinds(
     ("selective acknowledgements permitted later", "MUST", "RFC 2018, 2", "The option must not be sent without SYN."),
     ("SYN,ACK again", "choice", "RFC 9293, 3.8.1; RFC 6298, 2.1", "An unanswered SYN,ACK goes again; the first timeout should be one second."),
     ("congestion notification", "choice", "RFC 3168, 6.1; RFC 9768", "ECE, CWR and AE are used where both sides agreed; the reference has none."),
+    ("congestion notification unasked", "SHOULD", "RFC 3168, 6.1.1; RFC 9768", "ECE, CWR and AE should be clear where the other side's SYN has none of them."),
     ("captured twice", "unjudged", "RFC 791, 3.1", "The same datagram, by its identification, stands twice in the capture, as where it crosses a bridge; the second is left out."),
     ("not whole in the capture", "unjudged", "RFC 791, 3.1; RFC 9293, 3.1", "A record of these ends is cut short, a fragment, or malformed, so it doesn't tell what was sent. What needs a whole capture isn't judged."),
     # Where the two can't be compared.
@@ -88,9 +89,11 @@ KINDS = kinds(
     ("sent again", "choice", "RFC 9293, 3.8.1; RFC 6298, 5", "What isn't acknowledged in time is sent again; the wire that was captured lost, the reference's timer is fixed."),
     ("sent again early", "SHOULD", "RFC 6298, 2.4", "A timeout below one second should be rounded up to it. (But for RFC 8985's probe: the last text, once, after two round trips, where both sides permit selective acknowledgements; and a SYN,ACK below 10 ms, whose SYN the wire may have doubled.)"),
     ("no backoff", "MUST", "RFC 9293, 3.8.2 (MUST-19); RFC 6298, 5.5", "The timeout must double each time. (Said where it doesn't grow.)"),
-    ("window probed", "choice", "RFC 9293, 3.8.6.1 (SHLD-29, SHLD-30)", "A window of 0 is probed first after a timeout, then at growing intervals."),
+    ("window probed", "choice", "RFC 9293, 3.8.6.1 (SHLD-29)", "A window of 0 is probed first after a timeout, whose length is the server's."),
+    ("window probed without backoff", "SHOULD", "RFC 9293, 3.8.6.1 (SHLD-30)", "The wait between probes should grow exponentially. (Said where the ninth is as short as the first.)"),
     ("window probed without text", "unjudged", "RFC 9293, 3.8.6.1 (MUST-36)", "A probe has a byte of new text or one sent again; an empty segment below the window draws the same answer."),
-    ("window not probed", "MUST", "RFC 9293, 3.8.6.1 (MUST-36)", "Where text waits, a window of 0 must be probed regularly."),
+    ("window not probed", "MUST", "RFC 9293, 3.8.6.1 (MUST-36)", "Where text waits, a window of 0 must be probed regularly. (MUST from a minute on, where the text went as "
+     "soon as there was room, and none had come since; else unjudged, from 6 s on.)"),
     # Resets and the end.
     ("reset", "choice", "RFC 9293, 3.5.2 and 3.6.1 (SHLD-3)", "A server that aborts, or has lost data, sends a reset."),
     ("no reset", "choice", "RFC 9293, 3.5.2", "The reference has returned to LISTEN, where an acknowledgement is answered by a reset."),

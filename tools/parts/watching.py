@@ -17,7 +17,9 @@ LATE = 10_000               # microseconds beyond the way to the capture's place
 TOO_LATE = 500_000
 SOON = 1_000                # microseconds in which two segments may have changed places in the capture
 SECOND = 1_000_000
-LONG_CLOSED = 60 * SECOND   # a window of 0 for so long is probed by any timer
+LONG_CLOSED = 60 * SECOND   # a window of 0 for so long is probed by any timer,
+OFTEN_PROBED = 6 * SECOND   # and for so long by most
+PROBES = 10                 # in a row, by which their waits must have grown
 RESERVED = 14               # in the header's byte 12; the bit below them is AE of RFC 9768
 MOST_HELD = 4_096           # texts that wait, and acknowledgements of what didn't come, so that no capture makes this slow
 PAGE = 512
@@ -39,6 +41,7 @@ class Handshake:
         self.client_shift, self.server_shift = (max(shift or 0 for shift in side) if self.scaled else 0 for side in shifts)
         self.unsure = self.scaled and any(len(side) > 1 for side in shifts)
         self.selective = any(SACK_PERMITTED in held for held in asks) and any(SACK_PERMITTED in held for held in offers)
+        self.notifies = any(all_flags(s) & (ECE | CWR) or header(s)[12] & 1 for s in syns)
         self.stamped = all(TIMESTAMP in held for held in asks + offers)
         self.takes_least, self.client_takes = min(map(takes, asks)), max(map(takes, asks))
         self.server_takes = max(map(takes, offers))
@@ -148,7 +151,8 @@ class Watch:
             found.add("urgent", s, "URG", "none")
         if flags & (ECE | CWR) or tcp[12] & 1:
             told = [name for name, there in (("AE", tcp[12] & 1), ("CWR", flags & CWR), ("ECE", flags & ECE)) if there]
-            found.add("congestion notification", s, "+".join(told), "none")
+            asked = self.shake.notifies or flags & (SYN | ACK) == SYN
+            found.add("congestion notification" if asked else "congestion notification unasked", s, "+".join(told), "none")
         if MSS in held and not flags & SYN:
             found.add("maximum segment size later", s, option_text(MSS, held), "none")
         for kind, name in ((SCALE, "window scale later"), (SACK_PERMITTED, "selective acknowledgements permitted later")):
@@ -439,6 +443,7 @@ class Outgoing:
         self.doubled = {}               # by number: acknowledgements of it since it went last
         self.selected = 0               # the greatest end of what the client has beyond a gap, by selective acknowledgements
         self.closed_at, self.probes, self.empty_probes, self.closed = None, [], [], []
+        self.runs = []                  # of each closed window its probes
         self.again = []
         self.large = []                 # segments larger than the client takes, by the SYN that takes least
         self.too_large = False          # one of them is so by each SYN
@@ -478,6 +483,7 @@ class Outgoing:
     def note_closed(self, s, ack, now):
         if now == 0 and self.closed_at is None:
             self.closed_at = s
+            self.runs.append([])
         elif now and self.closed_at is not None:
             self.closed.append(Closed(self.closed_at, s.at, len(self.probes) + len(self.empty_probes), self.top))
             self.closed_at = None
@@ -523,6 +529,7 @@ class Outgoing:
     def judge_room(self, s, lo, hi):
         if self.closed_at is not None and s.at > self.closed_at.at + LATE and (s.length == 1 or hi <= self.top):
             self.probes.append(s)
+            self.runs[-1].append(s)
         if self.past and self.past.refused and lo <= self.past.edge < hi:
             self.past.again = True
         if self.edge is not None and hi > self.edge and not (s.length == 1 and lo <= self.edge):
@@ -553,6 +560,29 @@ class Outgoing:
             return
         if not self.stream.put(lo - 1, text(s)):
             self.found.add("text changed", s, f"bytes {lo} to {hi - 1} differ from what was sent before", "")
+
+    def judge_unprobed(self):
+        """Windows of 0 that no probe went into while text waited; at the capture's end it may have waited."""
+        unprobed = [(one.opened - one.by.at, one.by) for one in self.closed if not one.probes and one.waited and one.opened - one.by.at >= OFTEN_PROBED]
+        sure = [(closed, by) for closed, by in unprobed if closed >= LONG_CLOSED]
+        if not sure:
+            self.found.unsure["window not probed"] = "a timer may take a minute"
+        for closed, by in sure or unprobed:
+            self.found.add("window not probed", by, f"closed for {seconds(closed)}", "probed after 1 s")
+        at = self.closed_at
+        if unprobed or at is None or self.probes or self.empty_probes or self.fin is not None or self.watch.state == "LISTEN":
+            return
+        if self.watch.until < 1 << 63 and self.watch.until - at.at >= LONG_CLOSED:
+            self.found.unsure["window not probed"] = "the capture doesn't show whether text waited"
+            self.found.add("window not probed", at, f"closed for {seconds(self.watch.until - at.at)}, to the capture's end", "probed after 1 s")
+
+    def judge_probes(self):
+        """Probes of one closed window, whose waits should grow."""
+        for run in self.runs:
+            waits = [b.at - a.at for a, b in zip(run, run[1:])]
+            if len(run) >= PROBES and waits[PROBES - 2] < min(waits[0] * 21 // 20, LONG_CLOSED):
+                first = next(n for n, (before, wait) in enumerate(zip(waits, waits[1:])) if wait < before * 21 // 20)
+                self.found.add("window probed without backoff", run[first + 2], f"{plural(len(run), 'time')}, " + " then ".join(map(seconds, waits[:5])), "each wait twice the one before")
 
     def length(self):
         """How much text the client has acknowledged, or the capture has without a gap."""
@@ -586,8 +616,7 @@ class Outgoing:
         trips = 2 * (self.shake.trip + min(self.shake.back, self.shortest or self.shake.back))
         for lo, sent in self.timeouts.items():
             judge_timeouts(sent, self.found, trips if lo in self.tails and self.shake.selective else SECOND)
-        for one in self.closed:
-            if one.opened - one.by.at >= LONG_CLOSED and not one.probes and one.waited:
-                self.found.add("window not probed", one.by, f"closed for {seconds(one.opened - one.by.at)}", "probed after 1 s")
+        self.judge_unprobed()
+        self.judge_probes()
         if self.empty_probes:
             self.found.add("window probed without text", self.empty_probes[0], f"{plural(len(self.empty_probes), 'time')}", "one byte")

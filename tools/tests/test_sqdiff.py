@@ -18,7 +18,7 @@ from pathlib import Path
 from unittest import mock
 
 from common import MODEL, SQRUN, TOOLS, TOP, captures, need, output
-from crafted import ACK, ECE, FIN, MSS, PSH, RST, SACKED, SCALED, STAMPED, SYN, URG, Talk, as_ipv6
+from crafted import ACK, CWR, ECE, FIN, MSS, PSH, RST, SACKED, SCALED, STAMPED, SYN, URG, Talk, as_ipv6
 from browser import Browser, COMMAND
 from generated import BEGIN, write
 from standards import KINDS, VERDICTS
@@ -89,6 +89,20 @@ def late_behind(change):
     return talk.down(ACK | PSH, b"hello", wait=SECOND * 7 // 10).up()
 
 
+def noticed():
+    """An open connection that uses congestion notification."""
+    return Talk().up(SYN | ECE | CWR, options=MSS).down(SYN | ACK | ECE, options=MSS, mark=True).up()
+
+
+def probed(*waits):
+    """A closed window, probed after so many seconds each."""
+    talk = Talk().open().up(ACK | PSH, b"hello", window=0).down()
+    for n, wait in enumerate(waits):
+        talk.down(ACK | PSH, b"h", seq=1, wait=int(wait * SECOND), mark=n == 2).up(ack=1, window=0)
+    talk.theirs += 1
+    return talk.up().down(ACK | PSH, b"ello").up()
+
+
 def refused():
     """An echo past the window, which is refused, and goes again once there is room; the first one is marked."""
     return Talk(window=1_000).open().up(ACK | PSH, b"x" * 1_400).down(ACK | PSH, b"x" * 1_000).down(ACK | PSH, b"x" * 400, mark=True).up(ack=1_001, window=0).up(
@@ -125,7 +139,8 @@ STORIES = {
         ACK | PSH, b"x", mark=True).up(options=STAMPED),
     "maximum segment size later": lambda: Talk().open().echo(options=MSS, mark=True),
     "SYN,ACK again": lambda: Talk().up(SYN, options=MSS).down(SYN | ACK, options=MSS, mark=True).up(wait=SECOND * 3 // 2).echo(),
-    "congestion notification": lambda: Talk().open().up(ACK | PSH, b"hello").down(ACK | PSH | ECE, b"hello", mark=True).up(),
+    "congestion notification": lambda: noticed().up(ACK | PSH, b"hello").down(ACK | PSH | ECE, b"hello").up(),
+    "congestion notification unasked": lambda: Talk().open().up(ACK | PSH, b"hello").down(ACK | PSH | ECE, b"hello", mark=True).up(),
     "captured twice": lambda: Talk().open().up(ACK | PSH, b"hello").down(ACK | PSH, b"hello", number=77).down(
         ACK | PSH, b"hello", seq=1, number=77, wait=20, mark=True).up(),
     "not whole in the capture": lambda: late_behind(lambda body: body[:-1]),
@@ -177,6 +192,7 @@ STORIES = {
         ACK | PSH, b"h", seq=1, wait=SECOND).down(ACK | PSH, b"h", seq=1, wait=SECOND * 2).up().down(ACK | PSH, b"ello").up(),
     "window probed without text": lambda: Talk().open().up(ACK | PSH, b"hello", window=0).down().down(seq=0, wait=SECOND, mark=True).up(
         window=0).up().down(ACK | PSH, b"hello").up(),
+    "window probed without backoff": lambda: probed(*[1] * 10),
     "window not probed": lambda: Talk().open().up(ACK | PSH, b"hello", window=0, mark=True).down().up(wait=SECOND * 70).down(ACK | PSH, b"hello").up(),
     "reset": lambda: Talk().open().echo().down(ACK | RST, mark=True),
     "no reset": lambda: Talk().open().echo().up(RST).up(wait=SECOND),
@@ -231,7 +247,8 @@ CONTROLS = {
         ACK | PSH, b"two", wait=SECOND // 3).down(ACK | PSH, b"two").up(),
     "acknowledgements that are too late by more than a timer": lambda: texts().up(ACK | PSH, b"one").down(wait=SECOND * 2),
     "a keep-alive with a byte": lambda: Talk().open().echo().down(ACK, b"\0", seq=5, wait=60 * SECOND).up(),
-    "accurate congestion notification": lambda: Talk().open().echo(reserved=1),
+    "accurate congestion notification": lambda: noticed().echo(reserved=1),
+    "probes that wait five seconds at first": lambda: probed(5, 5, 5, 5, 6, 12, 24, 48, 60, 60, 60),
     "a text that came when the window was open again": lambda: Talk().open().echo().up(window=0).up(wait=70 * SECOND).echo().close(),
     "echo": lambda: Talk().open().echo().echo(b"x" * 1_460).close(),
     "discard": lambda: texts().up(ACK | PSH, b"hello").down().close(),
@@ -416,6 +433,15 @@ class Kinds(unittest.TestCase):
             found, _, status = lines(talk.save(self.folder))
             self.assertEqual([(line["verdict"], line["frame"], line["count"]) for line in found if line["kind"] == "past the window"], [(verdict, talk.marked, 1)])
             self.assertEqual(status, int(verdict == "MUST"))
+
+    def test_windows_that_are_not_probed(self):
+        """By how long they are closed; where the capture ends, it isn't known whether text waits."""
+        closed = lambda wait: Talk().open().up(ACK | PSH, b"hello", window=0, mark=True).down().up(wait=int(wait * SECOND)).down(ACK | PSH, b"hello").up()
+        until_the_end = Talk().open().up(ACK | PSH, b"hello", window=0, mark=True).down().up(window=0, wait=SECOND * 70)
+        for talk, verdict in ((closed(2), None), (closed(59), "unjudged"), (closed(61), "MUST"), (until_the_end, "unjudged")):
+            for words in ((), ("--alone",)):
+                found, _, _ = lines(talk.save(self.folder), *words)
+                self.assertEqual([(line["verdict"], line["frame"]) for line in found if line["kind"] == "window not probed"], [(verdict, talk.marked)] * bool(verdict))
 
     def test_the_timeout_that_is_early(self):
         """Its frame is named, and not that of the last one."""
