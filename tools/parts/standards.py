@@ -40,6 +40,8 @@ KINDS = kinds(
     ("maximum segment size later", "MUST", "RFC 9293, 3.2 (MUST-65)", "The option must not stand in a segment without SYN."),
     ("window scale later", "MUST", "RFC 7323, 2.1", "The option is sent only in a segment with SYN."),
     ("selective acknowledgements permitted later", "MUST", "RFC 2018, 2", "The option must not be sent without SYN."),
+    ("selective acknowledgement unsent", "MUST", "RFC 2018, 3", "A block is of text that came. (Said where it lies a megabyte beyond the text and the window, or before the SYN.)"),
+    ("option malformed", "MUST", "RFC 9293, 3.2 (MUST-68)", "An option but the end and no operation has a length, which counts its own two bytes and lies in the header."),
     ("SYN,ACK again", "choice", "RFC 9293, 3.8.1; RFC 6298, 2.1", "An unanswered SYN,ACK goes again; the first timeout should be one second."),
     ("congestion notification", "choice", "RFC 3168, 6.1; RFC 9768", "ECE, CWR and AE are used where both sides agreed; the reference has none."),
     ("congestion notification unasked", "SHOULD", "RFC 3168, 6.1.1; RFC 9768", "ECE, CWR and AE should be clear where the other side's SYN has none of them."),

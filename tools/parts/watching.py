@@ -10,7 +10,7 @@ from capture import ACK, FIN, RST, SYN
 from drawing import plural, seconds
 from findings import NEEDS_SCALE
 from segments import (CWR, ECE, ETHERNET_MOST, MSS, SACK, SACK_PERMITTED, SCALE, TIMESTAMP, URG, USUAL_MSS, accepts, all_flags, header, opens, option_text,
-                      options, room, text)
+                      options, parsed_options, room, text)
 from timeseq import near
 
 LATE = 10_000               # microseconds beyond the way to the capture's place and back, from which an acknowledgement counts as delayed
@@ -21,6 +21,7 @@ LONG_CLOSED = 60 * SECOND   # a window of 0 for so long is probed by any timer,
 OFTEN_PROBED = 6 * SECOND   # and for so long by most
 PROBES = 10                 # in a row, by which their waits must have grown
 RESERVED = 14               # in the header's byte 12; the bit below them is AE of RFC 9768
+FAR = 1 << 20               # bytes beyond all that is known, where no text can have been
 MOST_HELD = 4_096           # texts that wait, and acknowledgements of what didn't come, so that no capture makes this slow
 PAGE = 512
 
@@ -142,7 +143,10 @@ class Watch:
 
     def form(self, s):
         """What each segment of a server must look like."""
-        tcp, flags, held, found = header(s), all_flags(s), options(s), self.found
+        tcp, flags, found = header(s), all_flags(s), self.found
+        held, malformed = parsed_options(s)
+        if malformed and not self.offloaded:        # else its sum doesn't tell whether the wire spoilt it
+            found.add("option malformed", s, malformed, "")
         if tcp[12] & RESERVED:
             found.add("reserved bits", s, f"{tcp[12] & 15:04b}", "0000")
         if not flags & (ACK | RST | SYN):
@@ -281,12 +285,22 @@ class Incoming:
             self.early.append((s, ack))
         if ack < self.acked:
             self.found.add("acknowledgement went back", s, f"from {self.acked} to {ack}", "")
+        self.judge_blocks(s, ack)
         self.judge_gap(s, ack)
         self.pop(s, ack)
         self.note_refused(s, ack)
         self.window(s, ack)
         if ack > self.acked and not s.has(SYN):
             self.acked, self.last_ack = ack, s
+
+    def judge_blocks(self, s, ack):
+        """Selective acknowledgements of numbers where no text can have been."""
+        blocks = options(s).get(SACK, b"") if 0 <= ack < 1 << 30 else b""
+        for n in range(0, len(blocks) - 7, 8):
+            lo, hi = (near(int.from_bytes(blocks[at:at + 4], "big"), self.irs) for at in (n, n + 4))
+            if lo < -FAR or hi > max(self.top, self.edge or 0) + FAR:
+                self.found.add("selective acknowledgement unsent", s, f"{lo:,} to {hi:,}", f"at most {max(self.top, self.edge or 0):,}")
+                return
 
     def judge_gap(self, s, ack):
         if self.gap is None:
@@ -593,9 +607,10 @@ class Outgoing:
         lo = near(s.seq, self.base)
         if s.seq in self.acks or lo in (self.top, self.top + (self.fin is not None)) or s.seq == 0 and s.has(ACK):
             return
-        if self.edge is not None and self.heard_ack <= lo <= max(self.edge, self.top):
+        ended = self.fin is not None and self.heard_ack > self.fin        # behind it nothing can have gone that the capture lacks
+        if not ended and self.edge is not None and self.heard_ack <= lo <= max(self.edge, self.top):
             return
-        self.found.add("reset with a wrong number", s, f"seq {lo}", f"seq {self.top}, or what the client acknowledged")
+        self.found.add("reset with a wrong number", s, f"seq {lo}", f"seq {self.top + ended}, or what the other side acknowledged")
 
     def end(self):
         missing = self.stream.missing(self.length())

@@ -133,6 +133,8 @@ STORIES = {
     "window scale over 14": lambda: opened(asked=MSS + SCALED, offered=MSS + b"\x01\x03\x03\x0f").echo(),
     "selective acknowledgements": lambda: opened(asked=MSS + SACKED, offered=MSS + SACKED).echo(),
     "selective acknowledgements unasked": lambda: Talk().open().echo().down(options=b"\1\1\5\x0a" + bytes(8), mark=True),
+    "selective acknowledgement unsent": lambda: opened(asked=MSS + SACKED, offered=MSS + SACKED).echo(options=b"\1\1\5\x0a\x10\0\0\1\x10\0\0\5", mark=True),
+    "option malformed": lambda: Talk().open().echo(options=b"\x08\0\0\0", mark=True),
     "timestamps": lambda: stamped(opened(asked=MSS + STAMPED, offered=MSS + STAMPED, late=STAMPED)),
     "timestamps unasked": lambda: opened(offered=MSS + STAMPED).echo(),
     "timestamp missing": lambda: stamped(opened(asked=MSS + STAMPED, offered=MSS + STAMPED, late=STAMPED)).up(ACK | PSH, b"x", options=STAMPED).down(
@@ -304,6 +306,8 @@ OF_CLIENTS = {
     "acknowledged before it came": lambda: Talk().open().up(ACK | PSH, b"hello").down(ACK | PSH, b"hello").up(ack=11, mark=True).down(
         ACK | PSH, b"world", wait=50_000).up(),
     "reset with a wrong number": lambda: Talk().open().echo().up(RST, seq=5_000_000, mark=True),
+    "selective acknowledgement unsent": lambda: opened(asked=MSS + SACKED, offered=MSS + SACKED).up(ACK | PSH, b"hello").down(ACK | PSH, b"hello").up(
+        ack=1, options=b"\1\1\5\x0a\x10\0\0\1\x10\0\0\5", mark=True).up(),
     "timestamps unasked": lambda: Talk().open().echo().up(options=STAMPED, mark=True).close(),
     "window shrunk": lambda: Talk().open().up(ACK | PSH, b"hello").down(ACK | PSH, b"hello").up().up(window=100, wait=5_000, mark=True).close(),
 }
@@ -433,6 +437,12 @@ class Kinds(unittest.TestCase):
             found, _, status = lines(talk.save(self.folder))
             self.assertEqual([(line["verdict"], line["frame"], line["count"]) for line in found if line["kind"] == "past the window"], [(verdict, talk.marked, 1)])
             self.assertEqual(status, int(verdict == "MUST"))
+
+    def test_a_reset_behind_the_end(self):
+        """Once its FIN is acknowledged a server has only one number left, and what it answers."""
+        for number, count in ((555, 1), (7, 0)):
+            found, _, _ = lines(Talk().open().echo().close().up(wait=SECOND).down(RST, seq=number).save(self.folder))
+            self.assertEqual(sum(line["kind"] == "reset with a wrong number" for line in found), count, found)
 
     def test_windows_that_are_not_probed(self):
         """By how long they are closed; where the capture ends, it isn't known whether text waits."""
