@@ -177,7 +177,8 @@ def no_syn_ack(life, syn, found):
     answers = [s for s in life.server if s.record > syn.record]
     refusals = [s for s in answers if s.has(RST) and not of_another(s, life.client)]
     if not refusals:
-        found.add("no answer", syn, "no SYN,ACK in the capture", "SYN,ACK")
+        before = any(accepts(s) and 1 <= near(s.ack, syn.seq) <= syn.span() for s in life.server)
+        found.add("no answer", syn, "SYN,ACK stands before its SYN: the capture is out of order" if before else "no SYN,ACK in the capture", "SYN,ACK")
         return ""
     first = refusals[0]
     found.add("SYN refused", first, "reset", "SYN,ACK")

@@ -59,7 +59,7 @@ KINDS = kinds(
     ("acknowledged apart", "choice", "RFC 9293, 3.10.7.4", "An acknowledgement should go with text where that costs no undue delay; the service needs time, the reference's none."),
     ("gap not acknowledged", "SHOULD", "RFC 5681, 4.2; RFC 9293, 3.10.7.4 (MAY-13)", "A segment above a gap should be acknowledged at once."),
     ("acknowledged what wasn't sent", "MUST", "RFC 9293, 3.4 and 3.10.7.4", "An acknowledgement tells the next number that is expected. Behind the other side's FIN there is none."),
-    ("acknowledged before it came", "MUST", "RFC 9293, 3.4", "An acknowledgement of X says that all before X was received."),
+    ("acknowledged before it came", "MUST", "RFC 9293, 3.4", "An acknowledgement of X says that all before X was received. (MUST where most are in time: else two clocks may differ.)"),
     ("acknowledged what isn't captured", "unjudged", "RFC 9293, 3.4", "The capture has gaps, or the server acknowledges what never came. What needs a whole capture isn't judged."),
     ("text isn't captured", "unjudged", "RFC 9293, 3.4", "The other side acknowledged text which the capture lacks. What needs a whole capture isn't judged."),
     ("acknowledgement went back", "unjudged", "RFC 9293, 3.10.7.4", "RCV.NXT never falls; two acknowledgements may have changed places on the way. What needs their order isn't judged."),

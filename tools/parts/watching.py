@@ -199,6 +199,7 @@ class Incoming:
         self.judged = self.too_late = 0         # how many acknowledgements were judged by their delay, and how many of them came too late
         self.gap = None             # (segment above a gap, what was next)
         self.early = []             # (acknowledgement beyond what had come, its number)
+        self.in_order = 0           # how many new acknowledgements were of text that had come
         self.together, self.first_together, self.pure = 0, None, 0
         self.largest = self.most_window = 0
         self.silent_syn = None      # a SYN on the established connection that isn't answered yet
@@ -291,6 +292,7 @@ class Incoming:
         self.note_refused(s, ack)
         self.window(s, ack)
         if ack > self.acked and not s.has(SYN):
+            self.in_order += 1 < ack <= self.top and (fin is None or self.acked < fin)
             self.acked, self.last_ack = ack, s
 
     def judge_blocks(self, s, ack):
@@ -359,6 +361,9 @@ class Incoming:
     def end(self):
         if self.silent_syn and self.watch.until - self.silent_syn.at > TOO_LATE:
             self.found.add("SYN not challenged", self.silent_syn, "no answer", "acknowledged at once")
+        early = self.found.by_kind.get("acknowledged before it came")
+        if early and early.count > self.in_order:
+            self.found.unsure["acknowledged before it came"] = "most of them are: the two sides' clocks may differ"
         if 2 * self.too_late > self.judged:             # the capture may lack one that was in time, and not most of them
             self.found.sure.add("acknowledged too late")
         fin = self.watch.client_fin

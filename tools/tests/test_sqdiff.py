@@ -115,6 +115,12 @@ def swapped(talk):
     return talk
 
 
+def turned(talk):
+    """The last record first."""
+    talk.records.reverse()
+    return talk
+
+
 def opened(asked=MSS, offered=MSS, late=b"", **more):
     talk = Talk(asked=asked, offered=offered, **more)
     return talk.up(SYN, options=asked).down(SYN | ACK, options=offered, mark=True).up(options=late)
@@ -160,7 +166,7 @@ STORIES = {
     "selective acknowledgements permitted later": lambda: Talk().open().echo(options=SACKED, mark=True),
     "checksum wrong each time": lambda: Talk().open().echo().echo().echo().up(ACK | PSH, b"hello").down().down(ACK | PSH, b"hello", wrong=True, mark=True).down(
         ACK | PSH, b"hello", seq=16, wrong=True, wait=SECOND).down(ACK | PSH, b"hello", seq=16, wrong=True, wait=2 * SECOND).up(ack=16, wait=SECOND),
-    "acknowledged before it came": lambda: Talk().open().up(ACK | PSH, b"hello").down(ACK | PSH, b"hello", ack=11, mark=True).up(
+    "acknowledged before it came": lambda: Talk().open().echo().up(ACK | PSH, b"hello").down(ACK | PSH, b"hello", ack=16, mark=True).up(
         ACK | PSH, b"world", wait=50_000).down(ACK | PSH, b"world").up(),
     "acknowledged what isn't captured": lambda: Talk().open().up(ACK | PSH, b"hello").down(ACK | PSH, b"hello", ack=11, mark=True).up(),
     "text isn't captured": lambda: Talk().open().up(ACK | PSH, b"hello").up(seq=6, ack=6),
@@ -285,6 +291,9 @@ CONTROLS = {
         ACK | PSH, b"hello").up().up(ACK | PSH, b"world", wait=50_000).down(ACK | PSH, b"world").up().close(),
     "text in a SYN, which goes again": lambda: Talk().up(SYN, b"hello", options=MSS).down(SYN | ACK, options=MSS, ack=1).up(
         ACK | PSH, b"hello", seq=1).down(ACK | PSH, b"hello").up().close(),
+    "echoes that stand before their texts, by another clock": lambda: Talk().open().down(ACK | PSH, b"hello", ack=6).up(ACK | PSH, b"hello", ack=1, wait=20_000).up(wait=100).down(
+        ACK | PSH, b"world", ack=11, wait=SECOND).up(ACK | PSH, b"world", ack=6, wait=20_000).up().close(),
+    "a capture whose records are turned round": lambda: turned(Talk().open().echo().close()),
     "a segment asked for by three acknowledgements": lambda: Talk().open().up(ACK | PSH, b"hello").down(ACK | PSH, b"hello").up(ack=1).up(ack=1).up(
         ack=1).down(ACK | PSH, b"hello", seq=1).up(),
 }
@@ -303,7 +312,7 @@ OF_CLIENTS = {
     "no backoff": lambda: Talk().open().up(ACK | PSH, b"hello").up(ACK | PSH, b"hello", seq=1, wait=SECOND).up(ACK | PSH, b"hello", seq=1, wait=SECOND).up(
         ACK | PSH, b"hello", seq=1, wait=SECOND, mark=True).down(ACK | PSH, b"hello").up(),
     "acknowledged what wasn't sent": lambda: Talk().open().echo().up(ACK | FIN).down(ACK | FIN).up(ack=5_008, mark=True),
-    "acknowledged before it came": lambda: Talk().open().up(ACK | PSH, b"hello").down(ACK | PSH, b"hello").up(ack=11, mark=True).down(
+    "acknowledged before it came": lambda: Talk().open().echo().up(ACK | PSH, b"hello").down(ACK | PSH, b"hello").up(ack=16, mark=True).down(
         ACK | PSH, b"world", wait=50_000).up(),
     "reset with a wrong number": lambda: Talk().open().echo().up(RST, seq=5_000_000, mark=True),
     "selective acknowledgement unsent": lambda: opened(asked=MSS + SACKED, offered=MSS + SACKED).up(ACK | PSH, b"hello").down(ACK | PSH, b"hello").up(
@@ -477,6 +486,10 @@ class Kinds(unittest.TestCase):
         for name in ("text in a SYN, which the server takes", "text in a SYN, which goes again"):
             found, _, _ = lines(CONTROLS[name]().save(self.folder))
             self.assertLessEqual({line["kind"] for line in found if line["verdict"] in GRAVE}, {"parts"}, found)
+
+    def test_a_capture_out_of_order(self):
+        found, _, _ = lines(turned(Talk().open().echo().close()).save(self.folder))
+        self.assertEqual([line["captured"] for line in found if line["kind"] == "no answer"], ["SYN,ACK stands before its SYN: the capture is out of order"])
 
     def test_gaps_make_unjudged(self):
         """Where the capture lacks a text, a late acknowledgement breaks no MUST: the one that was in time may be missing too."""
