@@ -322,12 +322,12 @@ OF_CLIENTS = {
 }
 
 
-def at_port(datagram, port):
+def at_port(datagram, port, old=(7, 9)):
     """The same segment with another port of its server in the place of 7 and 9, and a checksum that is as right or wrong."""
     header = 4 * (datagram[0] & 15)
     for at in (header, header + 2):
         held = int.from_bytes(datagram[at:at + 2], "big")
-        if held in (7, 9) and len(datagram) >= header + 18:
+        if held in old and len(datagram) >= header + 18:
             total = (0xffff ^ int.from_bytes(datagram[header + 16:header + 18], "big")) + (0xffff ^ held) + port
             total = (total & 0xffff) + (total >> 16)
             total = 0xffff ^ ((total & 0xffff) + (total >> 16))
@@ -486,6 +486,14 @@ class Kinds(unittest.TestCase):
         for name in ("text in a SYN, which the server takes", "text in a SYN, which goes again"):
             found, _, _ = lines(CONTROLS[name]().save(self.folder))
             self.assertLessEqual({line["kind"] for line in found if line["verdict"] in GRAVE}, {"parts"}, found)
+
+    def test_a_client_at_a_served_port(self):
+        """A client's port of 7 or 9 makes a client of neither server."""
+        for port in (7, 9):
+            talk = Talk().open().echo(reserved=4, mark=True).close()
+            found, summary, _ = lines(talk.save(self.folder, changed=lambda datagram: at_port(datagram, port, (4_000,))))
+            self.assertEqual([(line["kind"], line["frame"]) for line in found], [("reserved bits", talk.marked)])
+            self.assertEqual((summary["connections"], summary["compared"]), (1, 1))
 
     def test_a_capture_out_of_order(self):
         found, _, _ = lines(turned(Talk().open().echo().close()).save(self.folder))
