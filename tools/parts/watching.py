@@ -280,9 +280,9 @@ class Incoming:
         self.pure += not s.span()
         fin = self.watch.client_fin
         if fin is not None and ack > max(fin + 1, self.top) and self.watch.goes_on(s):
-            self.found.add("acknowledged what wasn't sent", s, f"ack {ack:,}, the other side ended with {fin + 1:,}", "")
+            self.unsent(s, ack)
             return
-        if ack > self.top and not s.has(SYN) and len(self.early) < MOST_HELD:
+        if ack > self.top and not s.has(SYN) and self.watch.goes_on(s) and len(self.early) < MOST_HELD:
             self.early.append((s, ack))
         if ack < self.acked:
             self.found.add("acknowledgement went back", s, f"from {self.acked} to {ack}", "")
@@ -294,6 +294,9 @@ class Incoming:
         if ack > self.acked and not s.has(SYN):
             self.in_order += 1 < ack <= self.top and (fin is None or self.acked < fin)
             self.acked, self.last_ack = ack, s
+
+    def unsent(self, s, ack):
+        self.found.add("acknowledged what wasn't sent", s, f"ack {ack:,}, the other side ended with {self.watch.client_fin + 1:,}", "")
 
     def judge_blocks(self, s, ack):
         """Selective acknowledgements of numbers where no text can have been."""
@@ -367,6 +370,9 @@ class Incoming:
         if 2 * self.too_late > self.judged:             # the capture may lack one that was in time, and not most of them
             self.found.sure.add("acknowledged too late")
         fin = self.watch.client_fin
+        for s, ack in self.early if fin is not None else ():        # before FIN told where the other side ends
+            if ack > max(fin + 1, self.top):
+                self.unsent(s, ack)
         reached, missing, first = self.acked if fin is None else min(self.acked, fin), 0, None
         at = self.next
         for lo, hi in [*self.beyond, (reached, reached)]:

@@ -495,6 +495,12 @@ class Kinds(unittest.TestCase):
             self.assertEqual([(line["kind"], line["frame"]) for line in found], [("reserved bits", talk.marked)])
             self.assertEqual((summary["connections"], summary["compared"]), (1, 1))
 
+    def test_an_end_that_is_told_later(self):
+        """An acknowledgement beyond FIN, which came before FIN."""
+        talk = Talk().open().up(ACK | PSH, b"hello").down(ACK | PSH, b"hello", ack=500, mark=True).up().close()
+        found, _, _ = lines(talk.save(self.folder))
+        self.assertEqual([(line["kind"], line["frame"]) for line in found if line["verdict"] == "MUST"], [("acknowledged what wasn't sent", talk.marked)])
+
     def test_a_capture_out_of_order(self):
         found, _, _ = lines(turned(Talk().open().echo().close()).save(self.folder))
         self.assertEqual([line["captured"] for line in found if line["kind"] == "no answer"], ["SYN,ACK stands before its SYN: the capture is out of order"])
