@@ -166,7 +166,7 @@ class Watch:
             found.add("selective acknowledgements unasked", s, "yes", "none")
         if TIMESTAMP in held and TIMESTAMP not in self.shake.asked and not flags & SYN:
             found.add("timestamps unasked", s, "yes", "none")
-        if self.shake.stamped and TIMESTAMP not in held and not flags & (RST | SYN):
+        if self.shake.stamped and TIMESTAMP not in held and not malformed and not flags & (RST | SYN):
             found.add("timestamp missing", s, "none", "in each segment, as agreed")
 
     def end(self):
@@ -300,7 +300,7 @@ class Incoming:
 
     def judge_blocks(self, s, ack):
         """Selective acknowledgements of numbers where no text can have been."""
-        blocks = options(s).get(SACK, b"") if 0 <= ack < 1 << 30 else b""
+        blocks = options(s).get(SACK, b"") if 0 <= ack < 1 << 30 and self.watch.goes_on(s) else b""
         for n in range(0, len(blocks) - 7, 8):
             lo, hi = (near(int.from_bytes(blocks[at:at + 4], "big"), self.irs) for at in (n, n + 4))
             if lo < -FAR or hi > max(self.top, self.edge or 0) + FAR:
@@ -492,6 +492,8 @@ class Outgoing:
         went = self.ends.pop(ack, None)
         if went is not None and not s.has(SYN):
             self.shortest = min(s.at - went, self.shortest or s.at - went)
+        if ack > self.heard_ack and self.closed_at is not None:     # the byte of a probe was taken, and its timer begins anew
+            self.runs.append([])
         if ack >= self.heard_ack:
             self.heard_ack, self.window = ack, now
             self.note_closed(s, ack, now)

@@ -103,6 +103,14 @@ def probed(*waits):
     return talk.up().down(ACK | PSH, b"ello").up()
 
 
+def taken(count):
+    """A closed window whose client takes the byte of each probe."""
+    talk = Talk().open().up(ACK | PSH, b"hello" * 5, window=0).down()
+    for n in range(count):
+        talk.down(ACK | PSH, (b"hello" * 5)[n:n + 1], wait=SECOND).up(window=0)
+    return talk.up().down(ACK | PSH, (b"hello" * 5)[count:]).up()
+
+
 def refused():
     """An echo past the window, which is refused, and goes again once there is room; the first one is marked."""
     return Talk(window=1_000).open().up(ACK | PSH, b"x" * 1_400).down(ACK | PSH, b"x" * 1_000).down(ACK | PSH, b"x" * 400, mark=True).up(ack=1_001, window=0).up(
@@ -256,6 +264,7 @@ CONTROLS = {
     "acknowledgements that are too late by more than a timer": lambda: texts().up(ACK | PSH, b"one").down(wait=SECOND * 2),
     "a keep-alive with a byte": lambda: Talk().open().echo().down(ACK, b"\0", seq=5, wait=60 * SECOND).up(),
     "accurate congestion notification": lambda: noticed().echo(reserved=1),
+    "probes whose bytes are taken": lambda: taken(12),
     "probes that wait five seconds at first": lambda: probed(5, 5, 5, 5, 6, 12, 24, 48, 60, 60, 60),
     "a text that came when the window was open again": lambda: Talk().open().echo().up(window=0).up(wait=70 * SECOND).echo().close(),
     "echo": lambda: Talk().open().echo().echo(b"x" * 1_460).close(),
