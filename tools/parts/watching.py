@@ -470,8 +470,7 @@ class Outgoing:
         self.closed_at, self.probes, self.empty_probes, self.closed = None, [], [], []
         self.runs = []                  # of each closed window its probes
         self.again = []
-        self.large = []                 # segments larger than the client takes, by the SYN that takes least
-        self.too_large = False          # one of them is so by each SYN
+        self.large, self.perhaps_large = [], []         # segments larger than the client takes, by each of its SYNs, and by one
         self.past, self.past_surely, self.past_perhaps = None, [], []      # Past; what of the texts was refused, and what not
 
     def heard(self, s):
@@ -549,9 +548,9 @@ class Outgoing:
 
     def judge_size(self, s):
         beside = (header(s)[12] >> 2 & 60) - 20
-        if s.length + beside > self.shake.takes_least:
-            self.too_large = self.too_large or s.length + beside > self.shake.client_takes
-            self.large.append((s, f"{s.length} bytes and {beside} of options, the other side takes {self.shake.takes_least}"))
+        for limit, large in ((self.shake.client_takes, self.large), (self.shake.takes_least, self.perhaps_large)):
+            if s.length + beside > limit:
+                large.append((s, f"{s.length} bytes and {beside} of options, the other side takes {limit}"))
 
     def judge_room(self, s, lo, hi):
         if self.closed_at is not None and s.at > self.closed_at.at + LATE and (s.length == 1 or hi <= self.top):
@@ -637,9 +636,9 @@ class Outgoing:
             self.found.add("past the window", s, f"up to {hi}, the window ends at {edge}", "")
         offloaded = self.watch.offloaded or any(len(s.datagram) > ETHERNET_MOST for s in self.watch.life.client + self.watch.life.server)
         self.found.offloaded = self.found.offloaded or offloaded
-        if not self.too_large:
+        if not self.large:
             self.found.unsure["larger than the client takes"] = "the SYNs differ"
-        for s, words in self.large:
+        for s, words in self.large or self.perhaps_large:
             self.found.add("larger than a packet" if offloaded else "larger than the client takes", s, words, "")
         trips = 2 * (self.shake.trip + min(self.shake.back, self.shortest or self.shake.back))
         for lo, sent in self.timeouts.items():
