@@ -39,9 +39,13 @@ class Line:
     """A kind over all connections."""
     kind: object
     verdict: str
-    connections: int = 0
+    ends: set = field(default_factory=set)          # of the connections that have it, in whatever life and on whatever side
     times: int = 0
     first: list = field(default_factory=list)       # some of the (One, Difference) that have it
+
+    @property
+    def connections(self):
+        return len(self.ends)
 
 
 @dataclass
@@ -76,7 +80,7 @@ def summed(listed):
     for one in listed:
         for difference in one.differences:
             line = out.setdefault((difference.kind, difference.verdict), Line(KINDS[difference.kind], difference.verdict))
-            line.connections += 1
+            line.ends.add(one.ends)
             line.times += difference.count
             if len(line.first) < 5:
                 line.first.append((one, difference))

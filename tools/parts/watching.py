@@ -163,6 +163,7 @@ class Incoming:
         self.watch, self.found, self.shake, self.irs = watch, watch.found, watch.shake, watch.life.irs
         self.next, self.beyond, self.top = 1, [], 1         # what came without a gap, stretches beyond it, the greatest end
         self.acked, self.last_ack, self.edge, self.last_window = 0, None, None, None
+        self.right = 0              # the window's right edge: the greatest since it moved to the left last
         self.wl1, self.wl2, self.told_at = None, 0, 0       # number and acknowledgement of the segment with the newest window, and the time of the last
         self.waiting, self.delays, self.windows = [], [], []
         self.judged = self.too_late = 0         # how many acknowledgements were judged by their delay, and how many of them came too late
@@ -303,8 +304,10 @@ class Incoming:
         same = (s.seq, ack) == (self.wl1, self.wl2) and abs(s.at - told_at) < SOON        # which of the two went first isn't told
         if newer:
             self.wl1, self.wl2 = s.seq, ack
-        if newer and not same and self.edge is not None and ack >= self.acked and self.edge - edge >= slack:
-            self.found.add("window shrunk", s, f"edge from {self.edge:,} to {edge:,}", "")
+        shrunk = newer and not same and ack >= self.acked and self.right - edge >= slack
+        if shrunk:
+            self.found.add("window shrunk", s, f"edge from {self.right:,} to {edge:,}", "")
+        self.right = edge if shrunk else max(self.right, edge)
         if self.last_window == 0 and 0 < now < min(self.shake.server_takes, self.largest, self.most_window // 2):
             self.found.add("window opened by little", s, f"from 0 to {now}", "")
         self.last_window, self.most_window = now, max(self.most_window, now)

@@ -769,6 +769,22 @@ class Shapes(unittest.TestCase):
         self.assertRegex(text, r"\Ano MUST is broken; 1 connection: 0 differ, 1 is alike\n")
         self.assertNotIn("10.0.0.1", text)
 
+    def test_connections_are_counted_once(self):
+        """Not each side and each life of one; and a window that shrinks once is counted once, however long it stays."""
+        talk = Talk().open().up(ACK | PSH, b"one", reserved=4).down(ACK | PSH, b"one", reserved=4).up().close().anew(SECOND)
+        talk.open().echo(reserved=4).close()
+        path = talk.save(self.folder, "lives.pcap")
+        found, summary, _ = lines(path)
+        self.assertEqual([(line["life"], line["side"]) for line in found], [(0, "server"), (1, "server"), (0, "client")])
+        self.assertEqual([(one["connections"], one["times"]) for one in summary["summary"]], [(1, 3)])
+        self.assertIn("  MUST     reserved bits (3 times): frame", called("--sqrun", program(), path)[1])
+        talk = Talk(9, room=60_000).open()
+        for window in (5_000, 5_000, 5_000, 60_000, 59_000, 59_000):
+            talk.up(ACK | PSH, b"hello").down(window=window, wait=2_000)
+        found, _, _ = lines(talk.save(self.folder, "shrunk.pcap"))
+        line = next(line for line in found if line["kind"] == "window shrunk")
+        self.assertEqual((line["frames"], line["count"]), ([5, 13], 2))
+
     def test_must_alone_and_chosen_connections(self):
         text = self.said("--must", self.path)
         self.assertNotIn("PSH", text)
