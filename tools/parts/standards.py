@@ -42,7 +42,8 @@ KINDS = kinds(
     ("selective acknowledgements permitted later", "MUST", "RFC 2018, 2", "The option must not be sent without SYN."),
     ("SYN,ACK again", "choice", "RFC 9293, 3.8.1; RFC 6298, 2.1", "An unanswered SYN,ACK goes again; the first timeout should be one second."),
     ("congestion notification", "choice", "RFC 3168, 6.1; RFC 9768", "ECE, CWR and AE are used where both sides agreed; the reference has none."),
-    ("captured twice", "unjudged", "RFC 791, 3.1", "The same datagram, by its identification, stands twice in the capture, as where it crosses a bridge; the second is left out."),
+    ("captured twice", "unjudged", "RFC 791, 3.1", "The same datagram, by its identification, stands twice in the capture, as where it crosses a bridge; the second is left out, for sqrun too "
+     "where most of a connection's do. (Without an identification: the same text or SYN within a millisecond.)"),
     ("not whole in the capture", "unjudged", "RFC 791, 3.1; RFC 9293, 3.1", "A record of these ends is cut short, a fragment, or malformed, so it doesn't tell what was sent. What needs a whole capture isn't judged."),
     # Where the two can't be compared.
     ("parts", "unjudged", "RFC 9293, 3.10.7.4", "The client follows the captured server to where the reference isn't: it acknowledges what the reference hasn't sent, or sends more "

@@ -785,6 +785,28 @@ class Shapes(unittest.TestCase):
         line = next(line for line in found if line["kind"] == "window shrunk")
         self.assertEqual((line["frames"], line["count"]), ([5, 13], 2))
 
+    def test_a_capture_with_each_datagram_twice(self):
+        """sqrun gets none of the client's copies: nothing differs. Where one alone is doubled, as a wire may do, it gets both."""
+        talk = Talk().up(SYN, options=MSS, number=1).down(SYN | ACK, options=MSS, number=2).up(number=3).up(ACK | PSH, b"hello", number=4).down(
+            ACK | PSH, b"hello", number=5).up(number=6).up(ACK | FIN, number=7).down(ACK | FIN, number=8).up(number=9)
+        talk.records = [(at + later, body) for at, body in talk.records for later in (0, 10)]
+        path = talk.save(self.folder, "twice.pcap")
+        found, _, status = lines(path)
+        self.assertEqual([(line["kind"], line["side"], line["count"]) for line in found], [("captured twice", "server", 3), ("captured twice", "client", 6)])
+        self.assertEqual(status, 0)
+        self.assertIn("6 segments that the capture has twice left out for sqrun", called("--sqrun", program(), path)[1])
+        talk.records = [record for n, record in enumerate(talk.records) if n % 2 == 0 or n in (7, 9)]
+        self.assertNotIn("left out", called("--sqrun", program(), talk.save(self.folder, "one.pcap"))[1])
+
+    def test_alike_is_not_the_same(self):
+        """Without an identification two resets are two, and two texts of about one time have the same bytes, which may be one datagram."""
+        talk = Talk().open().echo().down(RST, wait=10).down(RST, seq=6, wait=34)
+        found, _, _ = lines(talk.save(self.folder, "resets.pcap"))
+        self.assertEqual([(line["kind"], line["captured"]) for line in found], [("reset", "2 times"), ("state at the end", "LISTEN")])
+        talk = Talk().open().up(ACK | PSH, b"hello").down(ACK | PSH, b"hello").down(ACK | PSH, b"hello", seq=1, wait=34).up()
+        found, _, _ = lines(talk.save(self.folder, "texts.pcap"))
+        self.assertEqual([(line["kind"], line["captured"]) for line in found], [("captured twice", "the same bytes 34 µs later, without an identification")])
+
     def test_must_alone_and_chosen_connections(self):
         text = self.said("--must", self.path)
         self.assertNotIn("PSH", text)
