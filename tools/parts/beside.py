@@ -9,6 +9,7 @@ from drawing import display_filter, figure, plural, seconds, text
 from segments import SCALE, options
 from served import rows
 from standards import KINDS, VERDICTS
+from told import allowed, of_sqrun
 
 HERE = Path(__file__).resolve().parent
 NOT_PROVED = ("Nothing on this page is proved: the proof speaks of sqrun's answers alone, and this tool judges the captured server by what the capture shows. "
@@ -17,7 +18,7 @@ WIDTH, LEFT, MIDDLE, RIGHT, ROW, HEAD = 1180, 110, 600, 1090, 31, 66
 MOST, FIRST, LAST = 90, 60, 25
 MOST_LISTED, MOST_OTHERS = 1_000, 200        # connections with tables
 STATES = {"LISTEN": "closed", "": "unknown"}        # of the captured server
-HEADS = '<tr><th>verdict<th>kind<th>captured<th>sqrun<th class="n">times<th>frames<th>section'
+HEADS = '<tr><th>verdict<th>kind<th>captured<th>sqrun, or what is allowed<th class="n">times<th>frames<th>section'
 STYLE = """
 .fig .arrow.MUST,.fig .arrow.SHOULD{stroke:var(--again);stroke-width:2.2}.fig text.MUST,.fig text.SHOULD{fill:var(--again)}
 """
@@ -121,13 +122,13 @@ def alone(compared):
     return '<?xml version="1.0" encoding="UTF-8"?>\n' + svg[:at] + f"<style>{drawing.STYLE}{ladder.STYLE}{STYLE}</style>" + svg[at:] + "\n"
 
 
-def difference_rows(compared):
+def difference_rows(one):
     out = []
-    for d in sorted(compared.differences, key=lambda d: VERDICTS.index(d.verdict)):
+    for d in sorted(one.differences, key=lambda d: VERDICTS.index(d.verdict)):
         kind = KINDS[d.kind]
         frames = ", ".join(map(str, d.frames)) + (" .." if d.count > len(d.frames) > 0 else "")
         out.append(f'<tr><td class="verdict {d.verdict}">{d.verdict}<td>{escape(d.kind)}<td class="long">{escape(d.captured)}'
-                   f'<td class="long">{escape(d.reference)}<td class="n">{d.count:,}<td>{frames}<td class="section">{escape(kind.section)}')
+                   f'<td class="long">{escape(f"allowed: {allowed(d)}" if allowed(d) else of_sqrun(one, d))}<td class="n">{d.count:,}<td>{frames}<td class="section">{escape(kind.section)}')
     return "".join(out)
 
 

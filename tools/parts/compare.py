@@ -26,6 +26,7 @@ class Compared:
     trip: int = 0               # microseconds from the SYN to its answer
     parted: object = None       # parting.Parting, where the client leaves the reference
     unfinished: bool = False    # the capture ends while it's at work
+    alone = False
 
 
 def compare(number, conn, served, sums, ending):

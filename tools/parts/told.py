@@ -13,7 +13,7 @@ LINES = 10                  # of the first screen
 GROUPS = 25                 # of connections that differ alike
 SHOWN = 3                   # connections that are named of a group
 COLOURS = {"MUST": "31;1", "SHOULD": "33;1", "service": "36", "choice": "2", "unjudged": "2"}
-FIELDS = ("connection", "life", "ends", "side", "kind", "verdict", "section", "count", "frame", "frames", "at_us", "frames_at_us", "captured", "sqrun")
+FIELDS = ("connection", "life", "ends", "side", "kind", "verdict", "section", "count", "frame", "frames", "at_us", "frames_at_us", "captured", "sqrun", "allowed")
 
 
 @dataclass
@@ -96,8 +96,18 @@ def where(one, d):
     return f"frame {d.frame} at {seconds(max(0, d.at - one.begun))}: " if d.frame else ""
 
 
-def sides(d):
-    return f"captured: {d.captured}" + (f"; sqrun: {d.reference}" if d.reference else "")
+def allowed(d):
+    """What the rule allows that this is against."""
+    return d.reference if KINDS[d.kind].verdict in ("MUST", "SHOULD") else ""
+
+
+def of_sqrun(one, d):
+    """What sqrun did, where it ran and is compared."""
+    return "" if one.alone or allowed(d) else d.reference
+
+
+def sides(one, d):
+    return f"captured: {d.captured}" + f"; sqrun: {of_sqrun(one, d)}" * bool(of_sqrun(one, d)) + f"; allowed: {allowed(d)}" * bool(allowed(d))
 
 
 def free(summary):
@@ -110,7 +120,7 @@ def grave(line, paint, width):
     """A line of the first screen: the verdict, what, how often, and where first."""
     one, d = line.first[0]
     many = f" ({plural(line.times, 'time')}" + (f" in {plural(line.connections, 'connection')}" if line.connections > 1 else "") + ")" if line.times > 1 else ""
-    text = f"{d.kind}{many}: {where(one, d)}{sides(d)} [{line.kind.section}] {one.name()}"
+    text = f"{d.kind}{many}: {where(one, d)}{sides(one, d)} [{line.kind.section}] {one.name()}"
     return f"  {paint(f'{line.verdict:8}', COLOURS[line.verdict])} {cut(text, width - 11)}"
 
 
@@ -138,7 +148,7 @@ def by_connection(listed, summary, paint=lambda text, _: text):
     out = [f"  {paint(f'{line.verdict:8}', COLOURS[line.verdict])} {line.kind.name:42} {plural(line.connections, 'connection'):16} {plural(line.times, 'time'):12} {line.kind.section}" for line in summary]
     for line in (line for line in summary if line.verdict == "choice"):
         one, d = line.first[0]
-        out.append(f"  choice   {d.kind}: {where(one, d)}{sides(d)} ({one.name()}{' and others' * (line.connections > 1)})")
+        out.append(f"  choice   {d.kind}: {where(one, d)}{sides(one, d)} ({one.name()}{' and others' * (line.connections > 1)})")
     groups = {}
     for one in listed:
         told = tuple(sorted({(d.kind, d.verdict) for d in one.differences if d.verdict != "choice"}))
@@ -156,7 +166,7 @@ def group_lines(ones, paint):
     for d in sorted(ones[0].differences, key=lambda d: VERDICTS.index(d.verdict)):
         if d.verdict != "choice":
             times = f" ({d.count:,} times)" if d.count > 1 else ""
-            out.append(f"  {paint(f'{d.verdict:8}', COLOURS[d.verdict])} {d.kind}{times}: {where(ones[0], d)}{sides(d)} [{KINDS[d.kind].section}]")
+            out.append(f"  {paint(f'{d.verdict:8}', COLOURS[d.verdict])} {d.kind}{times}: {where(ones[0], d)}{sides(ones[0], d)} [{KINDS[d.kind].section}]")
     return out
 
 
@@ -166,7 +176,7 @@ def rows(listed):
         for d in one.differences:
             kind = KINDS[d.kind]
             yield {"connection": one.number, "life": one.life, "ends": one.ends, "side": one.side, "kind": d.kind, "verdict": d.verdict, "section": kind.section,
-                   "count": d.count, "frame": d.frame, "frames": d.frames, "at_us": d.at, "frames_at_us": d.times, "captured": d.captured, "sqrun": d.reference}
+                   "count": d.count, "frame": d.frame, "frames": d.frames, "at_us": d.at, "frames_at_us": d.times, "captured": d.captured, "sqrun": of_sqrun(one, d), "allowed": allowed(d)}
 
 
 def last_row(outcome, summary):

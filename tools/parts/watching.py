@@ -236,7 +236,7 @@ class Incoming:
         """A segment of the server."""
         if self.silent_syn and not s.has(SYN):
             if s.at - self.silent_syn.at > TOO_LATE:
-                self.found.add("SYN not challenged", self.silent_syn, "no answer", "acknowledged at once")
+                self.found.add("SYN not challenged", self.silent_syn, "no answer", "an acknowledgement")
             self.silent_syn = None
         if not s.has(ACK):
             return
@@ -282,7 +282,7 @@ class Incoming:
     def judge_seldom(self, s, done):
         full = [one for one in done if not one.doubtful and one.segment.length >= min(self.shake.server_takes, max(self.largest, USUAL_MSS))]
         if len(full) > 2 and full[1].ready is not None and s.at - full[1].ready > self.shake.trip + LATE:
-            self.found.add("acknowledged too seldom", s, f"{len(full)} full segments at once, {seconds(s.at - full[1].ready)} after the second", "each at once")
+            self.found.add("acknowledged too seldom", s, f"{len(full)} full segments at once, {seconds(s.at - full[1].ready)} after the second", "one for each second")
 
     def judge_delay(self, s, one):
         delay = s.at - one.ready - self.shake.trip
@@ -291,7 +291,7 @@ class Incoming:
         if delay >= LATE:
             self.delays.append((delay, one.segment))
         if delay >= TOO_LATE:
-            self.found.add("acknowledged too late", s, f"{seconds(s.at - one.ready)} after frame {one.segment.record + 1}", "at once")
+            self.found.add("acknowledged too late", s, f"{seconds(s.at - one.ready)} after frame {one.segment.record + 1}", "within 0.5 s")
 
     def window(self, s, ack):
         now = room(s, self.shake.server_shift)
@@ -315,7 +315,7 @@ class Incoming:
 
     def end(self):
         if self.silent_syn and self.watch.until - self.silent_syn.at > TOO_LATE:
-            self.found.add("SYN not challenged", self.silent_syn, "no answer", "acknowledged at once")
+            self.found.add("SYN not challenged", self.silent_syn, "no answer", "an acknowledgement")
         if 2 * self.too_late > self.judged:             # the capture may lack one that was in time, and not most of them
             self.found.sure.add("acknowledged too late")
         fin = self.watch.client_fin

@@ -716,7 +716,7 @@ class Shapes(unittest.TestCase):
     def test_text(self):
         text = self.said(self.path)
         self.assertIn("10.0.0.1:4000 -> 10.0.0.2:7 (connection 0, echo)", text)
-        self.assertRegex(text, r"MUST     reserved bits: frame 5 at [\d.]+ .s: captured: 0100; sqrun: 0000 \[RFC 9293, 3\.1\]")
+        self.assertRegex(text, r"MUST     reserved bits: frame 5 at [\d.]+ .s: captured: 0100; allowed: 0000 \[RFC 9293, 3\.1\]")
         self.assertRegex(text, r"\Aa MUST is broken 1 time; 1 connection: 1 differs, 0 are alike\n(.*\n)?  MUST     reserved bits: ")
         each = self.said("--each", self.path)
         self.assertRegex(each, r"(?m)^  MUST +reserved bits +1 connection +1 time +RFC 9293, 3\.1$")
@@ -784,6 +784,20 @@ class Shapes(unittest.TestCase):
         found, _, _ = lines(talk.save(self.folder, "shrunk.pcap"))
         line = next(line for line in found if line["kind"] == "window shrunk")
         self.assertEqual((line["frames"], line["count"]), ([5, 13], 2))
+
+    def test_what_a_rule_allows_is_not_what_sqrun_did(self):
+        """Beside what breaks a rule stands what that allows. Where no sqrun ran, and of a client, nothing is said of sqrun."""
+        talk = Talk().open().up(ACK | PSH, b"hello", reserved=4).down(ACK | PSH, b"hello").down(ACK | PSH, b"hello", seq=1, wait=SECOND // 3).up().up(ACK | PSH, b"more").down(reserved=4)
+        path = talk.then(2 * SECOND).save(self.folder, "rules.pcap")
+        found, _, _ = lines(path)
+        rules = {line["kind"] for line in found if line["allowed"]}
+        self.assertEqual(rules, {"reserved bits", "sent again early"})
+        self.assertLessEqual({"acknowledged apart", "length of the text"}, {line["kind"] for line in found if line["sqrun"]})
+        self.assertTrue(all(not line["sqrun"] for line in found if line["kind"] in rules or line["side"] == "client"))
+        alone = called("--alone", "--each", path)[1]
+        self.assertIn("captured: 0100; allowed: 0000", alone)
+        self.assertNotIn("sqrun:", alone)
+        self.assertIn("<td class=\"long\">allowed: 0000<", called("--sqrun", program(), "--page", path)[1])
 
     def test_a_capture_with_each_datagram_twice(self):
         """sqrun gets none of the client's copies: nothing differs. Where one alone is doubled, as a wire may do, it gets both."""

@@ -17,8 +17,9 @@ local fields = {
     side = ProtoField.string("squeues.side", "Side"),
     captured = ProtoField.string("squeues.captured", "Captured"),
     sqrun = ProtoField.string("squeues.sqrun", "Reference (sqrun)"),
+    allowed = ProtoField.string("squeues.allowed", "Allowed"),
 }
-local order = { "verdict", "kind", "section", "side", "captured", "sqrun" }
+local order = { "verdict", "kind", "section", "side", "captured", "sqrun", "allowed" }
 local severities = {
     MUST = ProtoExpert.new("squeues.must", "A MUST is broken", expert.group.PROTOCOL, expert.severity.ERROR),
     SHOULD = ProtoExpert.new("squeues.should", "A SHOULD isn't followed", expert.group.PROTOCOL, expert.severity.WARN),
