@@ -53,18 +53,21 @@ class Outcome:
     """How many there are, and what became of them."""
     connections: int = 0            # that the reference served
     compared: int = 0               # of these, those with a segment of the server
-    differ: int = 0
+    differ: int = 0                 # in more than what the standards leave free
+    free: int = 0                   # in that alone
     judged: int = 0                 # others, by their segments alone
     parted: int = 0
     left: int = 0                   # of 100 segments of all compared, those behind a parting
     unfinished: int = 0
+    must: int = 0                   # how often one is broken
+    should: int = 0
+    doubts: int = 0                 # how often a MUST can't be judged
 
-    def words(self, must):
+    def words(self):
         """In a line."""
-        alike = self.connections - self.differ
-        out = [f"a MUST is broken {plural(must, 'time')}" if must else "no MUST is broken"]
+        out = [self.broken()] + [f"{plural(self.doubts, 'time')} a MUST can't be judged"] * bool(self.doubts)
         if self.connections or not self.judged:
-            out.append(f"{plural(self.connections, 'connection')}: {self.differ:,} {'differs' if self.differ == 1 else 'differ'}, {alike:,} {'is' if alike == 1 else 'are'} alike")
+            out.append(plural(self.connections, "connection") + ": " * bool(self.connections) + self.differing())
         if self.judged:
             out.append(f"{self.judged:,} {'others ' if self.connections else ''}judged by the segments alone")
         if self.parted:
@@ -72,6 +75,20 @@ class Outcome:
         if self.unfinished:
             out.append(f"the capture ends before {self.unfinished:,}")
         return "; ".join(out)
+
+    def broken(self):
+        if not (self.compared or self.judged):
+            return "nothing is compared"
+        if not (self.must or self.should or self.doubts):
+            return "no MUST, no SHOULD is broken"
+        must = f"a MUST is broken {plural(self.must, 'time')}" if self.must else "no MUST is found broken" if self.doubts else "no MUST is broken"
+        return must + (f", a SHOULD {plural(self.should, 'time')}" if self.should else ", no SHOULD")
+
+    def differing(self):
+        verb = lambda n, one, many: f"{n:,} {one if n == 1 else many}"
+        alike = self.connections - self.differ - self.free
+        return ", ".join([verb(self.differ, "differs", "differ")] * bool(self.differ) + [verb(self.free, "differs", "differ") + " in what is free"] * bool(self.free)
+                         + [verb(alike, "is alike", "are alike")] * bool(alike))
 
 
 def summed(listed):
@@ -88,8 +105,9 @@ def summed(listed):
     return sorted(out.values(), key=lambda line: (VERDICTS.index(line.verdict), order.index(line.kind.name)))
 
 
-def musts(summary):
-    return sum(line.times for line in summary if line.verdict == "MUST")
+def times(summary, verdict, rule=None):
+    """How often the verdict is said, or only of rules that are this."""
+    return sum(line.times for line in summary if line.verdict == verdict and rule in (None, line.kind.verdict))
 
 
 def where(one, d):
@@ -132,8 +150,8 @@ def cut(text, width):
 def first_screen(outcome, summary, notes, terminal, more):
     """At most ten lines: what came out, the gravest kinds, what is free, and how to see more. `more` says whether there is more to see."""
     paint = painted(terminal)
-    must = musts(summary)
-    out = [paint(outcome.words(must), "31;1" if must else "32;1" if outcome.compared or outcome.judged else ""), *["; ".join(notes)] * bool(notes)]
+    colour = "31;1" if outcome.must else "33;1" if outcome.doubts else "32;1" if outcome.compared or outcome.judged else ""
+    out = [paint(outcome.words(), colour), *["; ".join(notes)] * bool(notes)]
     told, rest = [line for line in summary if line.verdict != "choice"], free(summary)
     room = LINES - len(out) - len(rest) - more
     shown = told if len(told) <= room else told[:room - 1]
@@ -182,7 +200,7 @@ def rows(listed):
 def last_row(outcome, summary):
     """The last line of JSON."""
     return {"connections": outcome.connections, "compared": outcome.compared, "judged": outcome.judged, "parted": outcome.parted, "not_compared": outcome.left,
-            "unfinished": outcome.unfinished, "must": musts(summary),
+            "unfinished": outcome.unfinished, "must": outcome.must,
             "summary": [{"kind": line.kind.name, "verdict": line.verdict, "section": line.kind.section, "rule": line.kind.rule,
                          "connections": line.connections, "times": line.times} for line in summary]}
 

@@ -717,7 +717,7 @@ class Shapes(unittest.TestCase):
         text = self.said(self.path)
         self.assertIn("10.0.0.1:4000 -> 10.0.0.2:7 (connection 0, echo)", text)
         self.assertRegex(text, r"MUST     reserved bits: frame 5 at [\d.]+ .s: captured: 0100; allowed: 0000 \[RFC 9293, 3\.1\]")
-        self.assertRegex(text, r"\Aa MUST is broken 1 time; 1 connection: 1 differs, 0 are alike\n(.*\n)?  MUST     reserved bits: ")
+        self.assertRegex(text, r"\Aa MUST is broken 1 time, no SHOULD; 1 connection: 1 differs\n(.*\n)?  MUST     reserved bits: ")
         each = self.said("--each", self.path)
         self.assertRegex(each, r"(?m)^  MUST +reserved bits +1 connection +1 time +RFC 9293, 3\.1$")
 
@@ -766,7 +766,7 @@ class Shapes(unittest.TestCase):
 
     def test_what_is_alike_is_counted(self):
         text = called("--sqrun", program(), Talk().open().echo().close().save(self.folder, "alike.pcap"))[1]
-        self.assertRegex(text, r"\Ano MUST is broken; 1 connection: 0 differ, 1 is alike\n")
+        self.assertRegex(text, r"\Ano MUST, no SHOULD is broken; 1 connection: 1 is alike\n")
         self.assertNotIn("10.0.0.1", text)
 
     def test_connections_are_counted_once(self):
@@ -784,6 +784,19 @@ class Shapes(unittest.TestCase):
         found, _, _ = lines(talk.save(self.folder, "shrunk.pcap"))
         line = next(line for line in found if line["kind"] == "window shrunk")
         self.assertEqual((line["frames"], line["count"]), ([5, 13], 2))
+
+    def test_the_first_line(self):
+        """What is broken, what couldn't be judged, and in what the connections differ."""
+        late = Talk().open().up(ACK | PSH, b"hello").down(ACK | PSH, b"hello", wait=SECOND * 7 // 10).up().up(ACK | PSH, b"world").up(ack=11)
+        early = Talk().open().up(ACK | PSH, b"hello").down(ACK | PSH, b"hello").down(ACK | PSH, b"hello", seq=1, wait=SECOND // 3).up()
+        for talk, words, wanted in ((Talk(room=1_000).open().echo(), (), "no MUST, no SHOULD is broken; 1 connection: 1 differs in what is free"),
+                                    (late, (), "no MUST is found broken, no SHOULD; 1 time a MUST can't be judged; 1 connection: 1 differs"),
+                                    (early, (), "no MUST is broken, a SHOULD 1 time; 1 connection: 1 differs"),
+                                    (early, ("--must",), "no MUST is broken, a SHOULD 1 time; 1 connection: 1 differs"),
+                                    (early, ("--alone",), "no MUST is broken, a SHOULD 1 time; 1 judged by the segments alone")):
+            path = talk.save(self.folder, "line.pcap")
+            self.assertEqual(called("--sqrun", program(), *words, path)[1].splitlines()[0], wanted)
+            self.assertIn(f"<p>{wanted}", called("--sqrun", program(), "--page", *words, path)[1].replace("&#x27;", "'"))
 
     def test_what_a_rule_allows_is_not_what_sqrun_did(self):
         """Beside what breaks a rule stands what that allows. Where no sqrun ran, and of a client, nothing is said of sqrun."""
