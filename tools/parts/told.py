@@ -53,8 +53,9 @@ class Outcome:
     """How many there are, and what became of them."""
     connections: int = 0            # that the reference served
     compared: int = 0               # of these, those with a segment of the server
-    differ: int = 0                 # in more than what the standards leave free
-    free: int = 0                   # in that alone
+    differ: int = 0                 # in what the standards ask for, or the service
+    free: int = 0                   # in what is free or unjudged alone
+    vague: bool = False             # of these some in what is unjudged
     judged: int = 0                 # others, by their segments alone
     parted: int = 0
     left: int = 0                   # of 100 segments of all compared, those behind a parting
@@ -87,7 +88,7 @@ class Outcome:
     def differing(self):
         verb = lambda n, one, many: f"{n:,} {one if n == 1 else many}"
         alike = self.connections - self.differ - self.free
-        return ", ".join([verb(self.differ, "differs", "differ")] * bool(self.differ) + [verb(self.free, "differs", "differ") + " in what is free"] * bool(self.free)
+        return ", ".join([verb(self.differ, "differs", "differ")] * bool(self.differ) + [verb(self.free, "differs", "differ") + " in what is free" + " or unjudged" * self.vague] * bool(self.free)
                          + [verb(alike, "is alike", "are alike")] * bool(alike))
 
 

@@ -790,7 +790,7 @@ class Shapes(unittest.TestCase):
         late = Talk().open().up(ACK | PSH, b"hello").down(ACK | PSH, b"hello", wait=SECOND * 7 // 10).up().up(ACK | PSH, b"world").up(ack=11)
         early = Talk().open().up(ACK | PSH, b"hello").down(ACK | PSH, b"hello").down(ACK | PSH, b"hello", seq=1, wait=SECOND // 3).up()
         for talk, words, wanted in ((Talk(room=1_000).open().echo(), (), "no MUST, no SHOULD is broken; 1 connection: 1 differs in what is free"),
-                                    (late, (), "no MUST is found broken, no SHOULD; 1 time a MUST can't be judged; 1 connection: 1 differs"),
+                                    (late, (), "no MUST is found broken, no SHOULD; 1 time a MUST can't be judged; 1 connection: 1 differs in what is free or unjudged"),
                                     (early, (), "no MUST is broken, a SHOULD 1 time; 1 connection: 1 differs"),
                                     (early, ("--must",), "no MUST is broken, a SHOULD 1 time; 1 connection: 1 differs"),
                                     (early, ("--alone",), "no MUST is broken, a SHOULD 1 time; 1 judged by the segments alone")):
