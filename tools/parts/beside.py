@@ -117,9 +117,7 @@ def diagram(compared):
 
 def alone(compared):
     """The diagram as a file of its own."""
-    svg = diagram(compared)
-    at = svg.index(">") + 1
-    return '<?xml version="1.0" encoding="UTF-8"?>\n' + svg[:at] + f"<style>{drawing.STYLE}{ladder.STYLE}{STYLE}</style>" + svg[at:] + "\n"
+    return drawing.as_file(diagram(compared), drawing.STYLE + ladder.STYLE + STYLE)
 
 
 def difference_rows(one):
@@ -151,7 +149,7 @@ def page(title, outcome, compared, others, summary, drawn, notes):
     head = ("<!DOCTYPE html>\n<html lang=\"en\"><head><meta charset=\"utf-8\">"
             "<meta http-equiv=\"Content-Security-Policy\" content=\"default-src 'none'; style-src 'unsafe-inline'\">"
             "<meta name=\"viewport\" content=\"width=device-width\">"
-            f"<title>{escape(title)}</title><style>{(HERE / 'page.css').read_text()}{drawing.STYLE}{ladder.STYLE}{STYLE}{PAGE_STYLE}</style></head><body>")
+            f"<title>{escape(title)}</title><style>{(HERE / 'page.css').read_text()}{drawing.NAMED}{drawing.STYLE}{ladder.STYLE}{STYLE}{PAGE_STYLE}</style></head><body>")
     shown = [n for n, c in enumerate(compared) if n in drawn or any(map(is_its_own, c.differences))][:MOST_LISTED]
     there = {f"conn{compared[n].number}life{compared[n].life}" for n in shown} | {place(one) for one in others[:MOST_OTHERS]}
     lines = "".join(f'<tr><td class="verdict {s.verdict}">{s.verdict}<td>{escape(s.kind.name)}<td class="n">{s.connections:,}<td class="n">{s.times:,}'
