@@ -20,6 +20,7 @@ from unittest import mock
 from common import MODEL, SQRUN, TOOLS, TOP, captures, need, output
 from crafted import ACK, ECE, FIN, MSS, PSH, RST, SACKED, SCALED, STAMPED, SYN, URG, Talk, as_ipv6
 from browser import Browser, COMMAND
+from drawing import seconds
 from generated import BEGIN, write
 from standards import KINDS, VERDICTS
 
@@ -382,6 +383,7 @@ class Kinds(unittest.TestCase):
                 with self.subTest(path.name, shape=shape):
                     status, said, told = called("--sqrun", program(), *shape, path)
                     self.assertEqual(status, 0 if path.name == "port.pcap" else 2, told)      # its segments alone are judged
+                    self.assertEqual("What the segments alone tell is judged" in told, path.name == "port.pcap")
                     for word in ("nothing is compared", *words):
                         self.assertIn(word, told)
                     if shape == ("--json",):
@@ -797,6 +799,10 @@ class Shapes(unittest.TestCase):
             path = talk.save(self.folder, "line.pcap")
             self.assertEqual(called("--sqrun", program(), *words, path)[1].splitlines()[0], wanted)
             self.assertIn(f"<p>{wanted}", called("--sqrun", program(), "--page", *words, path)[1].replace("&#x27;", "'"))
+
+    def test_times_for_people(self):
+        for us, wanted in ((0, "0 µs"), (999, "999 µs"), (1_000, "1 ms"), (999_400, "999 ms"), (999_600, "1.000 s"), (-600_000, "-600 ms"), (99_999_999, "100.000 s"), (2 * 10 ** 8, "200.0 s")):
+            self.assertEqual(seconds(us), wanted)
 
     def test_what_a_rule_allows_is_not_what_sqrun_did(self):
         """Beside what breaks a rule stands what that allows. Where no sqrun ran, and of a client, nothing is said of sqrun."""
