@@ -47,7 +47,7 @@ class Found:
         seen.count += count
         if frame and len(seen.frames) < FRAMES:
             seen.frames.append(frame)
-            seen.times.append(segment.at)
+            seen.times.append(segment.at if segment.real is None else segment.real)
 
     def differences(self):
         """All of them; where the capture leaves doubts, what depends on them is unjudged."""

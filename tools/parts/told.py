@@ -195,7 +195,7 @@ def rows(listed):
         for d in one.differences:
             kind = KINDS[d.kind]
             yield {"connection": one.number, "life": one.life, "ends": one.ends, "side": one.side, "kind": d.kind, "verdict": d.verdict, "section": kind.section,
-                   "count": d.count, "frame": d.frame, "frames": d.frames, "at_us": d.at, "frames_at_us": d.times, "captured": d.captured, "sqrun": of_sqrun(one, d), "allowed": allowed(d)}
+                   "count": d.count, "frame": d.frame, "frames": d.frames, "at_us": d.times[0] if d.times else d.at, "frames_at_us": d.times, "captured": d.captured, "sqrun": of_sqrun(one, d), "allowed": allowed(d)}
 
 
 def last_row(outcome, summary):

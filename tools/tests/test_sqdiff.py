@@ -804,6 +804,12 @@ class Shapes(unittest.TestCase):
         for us, wanted in ((0, "0 µs"), (999, "999 µs"), (1_000, "1 ms"), (999_400, "999 ms"), (999_600, "1.000 s"), (-600_000, "-600 ms"), (99_999_999, "100.000 s"), (2 * 10 ** 8, "200.0 s")):
             self.assertEqual(seconds(us), wanted)
 
+    def test_the_times_of_frames_are_the_captures(self):
+        """Also of a segment that is older than the one before it, which sqrun is told to be of that one's time."""
+        talk = texts().up(ACK | PSH, b"hello", wait=-50, mark=True)
+        line = next(line for line in lines(talk.save(self.folder, "back.pcap"))[0] if line["kind"] == "not acknowledged")
+        self.assertEqual((line["frames"], line["frames_at_us"], line["at_us"]), ([talk.marked], [talk.at], talk.at))
+
     def test_what_a_rule_allows_is_not_what_sqrun_did(self):
         """Beside what breaks a rule stands what that allows. Where no sqrun ran, and of a client, nothing is said of sqrun."""
         talk = Talk().open().up(ACK | PSH, b"hello", reserved=4).down(ACK | PSH, b"hello").down(ACK | PSH, b"hello", seq=1, wait=SECOND // 3).up().up(ACK | PSH, b"more").down(reserved=4)
