@@ -5,12 +5,11 @@ from capture import ACK, FIN, PSH, RST, SYN, Segment
 from drawing import plural, seconds
 from findings import Found
 from parting import parting, service_text, told
-from segments import MSS, SACK_PERMITTED, SCALE, TIMESTAMP, accepts, opens, option_text, options
+from segments import MSS, SACK_PERMITTED, SCALE, TIMESTAMP, accepts, copies, opens, option_text, options
 from served import rows
 from timeseq import lives, near
 from watching import LATE, Handshake, Watch, judge_timeouts
 
-SOON = 1_000                # microseconds, below which no timer sends again
 MOST_BROKEN = 2_000         # times and records that are looked at of what is no whole segment
 
 
@@ -27,6 +26,7 @@ class Compared:
     trip: int = 0               # microseconds from the SYN to its answer
     parted: object = None       # parting.Parting, where the client leaves the reference
     unfinished: bool = False    # the capture ends while it's at work
+    alone = False
 
 
 def compare(number, conn, served, sums, ending):
@@ -68,16 +68,12 @@ def heard(life, spoilt, found):
 
 
 def once(segments, found):
-    """The segments without those that the capture holds a second time: the same datagram but for what a router changes."""
-    seen, out = {}, []
-    for s in segments:
-        ip = s.datagram[:2] + s.datagram[4:8] + s.datagram[12:]
-        if ip in seen and (s.datagram[4:6] != b"\0\0" or s.at - seen[ip] < SOON):
-            found.add("captured twice", s, "the same datagram", "")
-            continue
-        seen[ip] = s.at
-        out.append(s)
-    return out
+    """The segments without those that the capture holds a second time."""
+    left_out = set()
+    for s, words in copies(segments):
+        found.add("captured twice", s, words, "")
+        left_out.add(s.record)
+    return [s for s in segments if s.record not in left_out]
 
 
 def in_order(life, listed):

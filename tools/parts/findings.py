@@ -31,6 +31,7 @@ class Difference:
     reference: str
     count: int = 1
     frames: list = field(default_factory=list)
+    times: list = field(default_factory=list)       # of these frames
     why: str = ""               # it's unjudged, where its kind isn't so always
 
 
@@ -47,11 +48,11 @@ class Found:
         frame = segment.record + 1 if segment is not None and segment.record >= 0 else None
         seen = self.by_kind.get(kind)
         if seen is None:
-            self.by_kind[kind] = Difference(kind, KINDS[kind].verdict, frame, segment.at if segment is not None else None, captured, reference, count, [frame] if frame else [])
-            return
+            seen = self.by_kind[kind] = Difference(kind, KINDS[kind].verdict, frame, segment.at if segment is not None else None, captured, reference, 0)
         seen.count += count
         if frame and len(seen.frames) < FRAMES:
             seen.frames.append(frame)
+            seen.times.append(segment.at if segment.real is None else segment.real)
 
     def differences(self):
         """All of them; where the capture leaves doubts, what depends on them is unjudged."""

@@ -45,7 +45,8 @@ KINDS = kinds(
     ("SYN,ACK again", "choice", "RFC 9293, 3.8.1; RFC 6298, 2.1", "An unanswered SYN,ACK goes again; the first timeout should be one second."),
     ("congestion notification", "choice", "RFC 3168, 6.1; RFC 9768", "ECE, CWR and AE are used where both sides agreed; the reference has none."),
     ("congestion notification unasked", "SHOULD", "RFC 3168, 6.1.1; RFC 9768", "ECE, CWR and AE should be clear where the other side's SYN has none of them."),
-    ("captured twice", "unjudged", "RFC 791, 3.1", "The same datagram, by its identification, stands twice in the capture, as where it crosses a bridge; the second is left out."),
+    ("captured twice", "unjudged", "RFC 791, 3.1", "The same datagram, by its identification, stands twice in the capture, as where it crosses a bridge; the second is left out, for sqrun too "
+     "where most of a connection's do. (Without an identification: the same text or SYN within a millisecond.)"),
     ("not whole in the capture", "unjudged", "RFC 791, 3.1; RFC 9293, 3.1", "A record of these ends is cut short, a fragment, or malformed, so it doesn't tell what was sent. What needs a whole capture isn't judged."),
     # Where the two can't be compared.
     ("parts", "unjudged", "RFC 9293, 3.10.7.4", "The client follows the captured server to where the reference isn't: it acknowledges what the reference hasn't sent, or sends more "

@@ -64,7 +64,7 @@ def judge_timeouts(sent, found, least=SECOND):
     waits = [b.at - a.at for a, b in zip(sent, sent[1:])]
     early = [s for n, (s, wait) in enumerate(zip(sent[1:], waits)) if wait < (SECOND * 98 // 100 if n else min(least, SECOND * 98 // 100))]
     if early:
-        found.add("sent again early", early[0], f"after {seconds(waits[sent.index(early[0]) - 1])}", "after 1 s")
+        found.add("sent again early", early[0], f"after {seconds(waits[sent.index(early[0]) - 1])}", "after 1 s or more")
     # Where the wire lost some of them, two waits are one: even then each is longer than the one before.
     for s, before, wait in zip(sent[3:], waits[1:], waits[2:]):
         if wait < before * 21 // 20 and before < 60 * SECOND:
@@ -194,6 +194,7 @@ class Incoming:
         self.watch, self.found, self.shake, self.irs = watch, watch.found, watch.shake, watch.life.irs
         self.next, self.beyond, self.top = 1, [], 1         # what came without a gap, stretches beyond it, the greatest end
         self.acked, self.last_ack, self.edge, self.last_window = 0, None, None, None
+        self.right = 0              # the window's right edge: the greatest since it moved to the left last
         self.wl1, self.wl2, self.told_at = None, 0, 0       # number and acknowledgement of the segment with the newest window, and the time of the last
         self.waiting, self.delays, self.windows = [], [], []
         self.judged = self.too_late = 0         # how many acknowledgements were judged by their delay, and how many of them came too late
@@ -272,7 +273,7 @@ class Incoming:
         """A segment of the server."""
         if self.silent_syn and not s.has(SYN):
             if s.at - self.silent_syn.at > TOO_LATE:
-                self.found.add("SYN not challenged", self.silent_syn, "no answer", "acknowledged at once")
+                self.found.add("SYN not challenged", self.silent_syn, "no answer", "an acknowledgement")
             self.silent_syn = None
         if not s.has(ACK):
             return
@@ -332,7 +333,7 @@ class Incoming:
     def judge_seldom(self, s, done):
         full = [one for one in done if not one.doubtful and one.segment.length >= min(self.shake.server_takes, max(self.largest, USUAL_MSS))]
         if len(full) > 2 and full[1].ready is not None and s.at - full[1].ready > self.shake.trip + LATE:
-            self.found.add("acknowledged too seldom", s, f"{len(full)} full segments at once, {seconds(s.at - full[1].ready)} after the second", "each at once")
+            self.found.add("acknowledged too seldom", s, f"{len(full)} full segments at once, {seconds(s.at - full[1].ready)} after the second", "one for each second")
 
     def judge_delay(self, s, one):
         delay = s.at - one.ready - self.shake.trip
@@ -341,7 +342,7 @@ class Incoming:
         if delay >= LATE:
             self.delays.append((delay, one.segment))
         if delay >= TOO_LATE:
-            self.found.add("acknowledged too late", s, f"{seconds(s.at - one.ready)} after frame {one.segment.record + 1}", "at once")
+            self.found.add("acknowledged too late", s, f"{seconds(s.at - one.ready)} after frame {one.segment.record + 1}", "within 0.5 s")
 
     def window(self, s, ack):
         now = room(s, self.shake.server_shift)
@@ -354,8 +355,10 @@ class Incoming:
         same = (s.seq, ack) == (self.wl1, self.wl2) and abs(s.at - told_at) < SOON        # which of the two went first isn't told
         if newer:
             self.wl1, self.wl2 = s.seq, ack
-        if newer and not same and self.edge is not None and ack >= self.acked and self.edge - edge >= slack:
-            self.found.add("window shrunk", s, f"edge from {self.edge:,} to {edge:,}", "")
+        shrunk = newer and not same and ack >= self.acked and self.right - edge >= slack
+        if shrunk:
+            self.found.add("window shrunk", s, f"edge from {self.right:,} to {edge:,}", "")
+        self.right = edge if shrunk else max(self.right, edge)
         if self.last_window == 0 and 0 < now < min(self.shake.server_takes, self.largest, self.most_window // 2):
             self.found.add("window opened by little", s, f"from 0 to {now}", "")
         self.last_window, self.most_window = now, max(self.most_window, now)
@@ -363,7 +366,7 @@ class Incoming:
 
     def end(self):
         if self.silent_syn and self.watch.until - self.silent_syn.at > TOO_LATE:
-            self.found.add("SYN not challenged", self.silent_syn, "no answer", "acknowledged at once")
+            self.found.add("SYN not challenged", self.silent_syn, "no answer", "an acknowledgement")
         early = self.found.by_kind.get("acknowledged before it came")
         if early and early.count > self.in_order:
             self.found.unsure["acknowledged before it came"] = "most of them are: the two sides' clocks may differ"
@@ -594,13 +597,13 @@ class Outgoing:
         if not sure:
             self.found.unsure["window not probed"] = "a timer may take a minute"
         for closed, by in sure or unprobed:
-            self.found.add("window not probed", by, f"closed for {seconds(closed)}", "probed after 1 s")
+            self.found.add("window not probed", by, f"closed for {seconds(closed)}", "a probe, first after 1 s")
         at = self.closed_at
         if unprobed or at is None or self.probes or self.empty_probes or self.fin is not None or self.watch.state == "LISTEN":
             return
         if self.watch.until < 1 << 63 and self.watch.until - at.at >= LONG_CLOSED:
             self.found.unsure["window not probed"] = "the capture doesn't show whether text waited"
-            self.found.add("window not probed", at, f"closed for {seconds(self.watch.until - at.at)}, to the capture's end", "probed after 1 s")
+            self.found.add("window not probed", at, f"closed for {seconds(self.watch.until - at.at)}, to the capture's end", "a probe, first after 1 s")
 
     def judge_probes(self):
         """Probes of one closed window, whose waits should grow."""

@@ -20,6 +20,7 @@ from unittest import mock
 from common import MODEL, SQRUN, TOOLS, TOP, captures, need, output
 from crafted import ACK, CWR, ECE, FIN, MSS, PSH, RST, SACKED, SCALED, STAMPED, SYN, URG, Talk, as_ipv6
 from browser import Browser, COMMAND
+from drawing import seconds
 from generated import BEGIN, write
 from standards import KINDS, VERDICTS
 
@@ -443,6 +444,7 @@ class Kinds(unittest.TestCase):
                 with self.subTest(path.name, shape=shape):
                     status, said, told = called("--sqrun", program(), *shape, path)
                     self.assertEqual(status, 0 if path.name == "port.pcap" else 2, told)      # its segments alone are judged
+                    self.assertEqual("What the segments alone tell is judged" in told, path.name == "port.pcap")
                     for word in ("nothing is compared", *words):
                         self.assertIn(word, told)
                     if shape == ("--json",):
@@ -843,8 +845,8 @@ class Shapes(unittest.TestCase):
     def test_text(self):
         text = self.said(self.path)
         self.assertIn("10.0.0.1:4000 -> 10.0.0.2:7 (connection 0, echo)", text)
-        self.assertRegex(text, r"MUST     reserved bits: frame 5 at [\d.]+ .s: captured: 0100; sqrun: 0000 \[RFC 9293, 3\.1\]")
-        self.assertRegex(text, r"\Aa MUST is broken 1 time; 1 connection: 1 differs, 0 are alike\n(.*\n)?  MUST     reserved bits: ")
+        self.assertRegex(text, r"MUST     reserved bits: frame 5 at [\d.]+ .s: captured: 0100; allowed: 0000 \[RFC 9293, 3\.1\]")
+        self.assertRegex(text, r"\Aa MUST is broken 1 time, no SHOULD; 1 connection: 1 differs\n(.*\n)?  MUST     reserved bits: ")
         each = self.said("--each", self.path)
         self.assertRegex(each, r"(?m)^  MUST +reserved bits +1 connection +1 time +RFC 9293, 3\.1$")
 
@@ -893,8 +895,83 @@ class Shapes(unittest.TestCase):
 
     def test_what_is_alike_is_counted(self):
         text = called("--sqrun", program(), Talk().open().echo().close().save(self.folder, "alike.pcap"))[1]
-        self.assertRegex(text, r"\Ano MUST is broken; 1 connection: 0 differ, 1 is alike\n")
+        self.assertRegex(text, r"\Ano MUST, no SHOULD is broken; 1 connection: 1 is alike\n")
         self.assertNotIn("10.0.0.1", text)
+
+    def test_connections_are_counted_once(self):
+        """Not each side and each life of one; and a window that shrinks once is counted once, however long it stays."""
+        talk = Talk().open().up(ACK | PSH, b"one", reserved=4).down(ACK | PSH, b"one", reserved=4).up().close().anew(SECOND)
+        talk.open().echo(reserved=4).close()
+        path = talk.save(self.folder, "lives.pcap")
+        found, summary, _ = lines(path)
+        self.assertEqual([(line["life"], line["side"]) for line in found], [(0, "server"), (1, "server"), (0, "client")])
+        self.assertEqual([(one["connections"], one["times"]) for one in summary["summary"]], [(1, 3)])
+        self.assertIn("  MUST     reserved bits (3 times): frame", called("--sqrun", program(), path)[1])
+        talk = Talk(9, room=60_000).open()
+        for window in (5_000, 5_000, 5_000, 60_000, 59_000, 59_000):
+            talk.up(ACK | PSH, b"hello").down(window=window, wait=2_000)
+        found, _, _ = lines(talk.save(self.folder, "shrunk.pcap"))
+        line = next(line for line in found if line["kind"] == "window shrunk")
+        self.assertEqual((line["frames"], line["count"]), ([5, 13], 2))
+
+    def test_the_first_line(self):
+        """What is broken, what couldn't be judged, and in what the connections differ."""
+        late = Talk().open().up(ACK | PSH, b"hello").down(ACK | PSH, b"hello", wait=SECOND * 7 // 10).up().up(ACK | PSH, b"world").up(ack=11)
+        early = Talk().open().up(ACK | PSH, b"hello").down(ACK | PSH, b"hello").down(ACK | PSH, b"hello", seq=1, wait=SECOND // 3).up()
+        for talk, words, wanted in ((Talk(room=1_000).open().echo(), (), "no MUST, no SHOULD is broken; 1 connection: 1 differs in what is free"),
+                                    (late, (), "no MUST is found broken, no SHOULD; 1 time a MUST can't be judged; 1 connection: 1 differs in what is free or unjudged"),
+                                    (early, (), "no MUST is broken, a SHOULD 1 time; 1 connection: 1 differs"),
+                                    (early, ("--must",), "no MUST is broken, a SHOULD 1 time; 1 connection: 1 differs"),
+                                    (early, ("--alone",), "no MUST is broken, a SHOULD 1 time; 1 judged by the segments alone")):
+            path = talk.save(self.folder, "line.pcap")
+            self.assertEqual(called("--sqrun", program(), *words, path)[1].splitlines()[0], wanted)
+            self.assertIn(f"<p>{wanted}", called("--sqrun", program(), "--page", *words, path)[1].replace("&#x27;", "'"))
+
+    def test_times_for_people(self):
+        for us, wanted in ((0, "0 µs"), (999, "999 µs"), (1_000, "1 ms"), (999_400, "999 ms"), (999_600, "1.000 s"), (-600_000, "-600 ms"), (99_999_999, "100.000 s"), (2 * 10 ** 8, "200.0 s")):
+            self.assertEqual(seconds(us), wanted)
+
+    def test_the_times_of_frames_are_the_captures(self):
+        """Also of a segment that is older than the one before it, which sqrun is told to be of that one's time."""
+        talk = texts().up(ACK | PSH, b"hello", wait=-50, mark=True)
+        line = next(line for line in lines(talk.save(self.folder, "back.pcap"))[0] if line["kind"] == "not acknowledged")
+        self.assertEqual((line["frames"], line["frames_at_us"], line["at_us"]), ([talk.marked], [talk.at], talk.at))
+
+    def test_what_a_rule_allows_is_not_what_sqrun_did(self):
+        """Beside what breaks a rule stands what that allows. Where no sqrun ran, and of a client, nothing is said of sqrun."""
+        talk = Talk().open().up(ACK | PSH, b"hello", reserved=4).down(ACK | PSH, b"hello").down(ACK | PSH, b"hello", seq=1, wait=SECOND // 3).up().up(ACK | PSH, b"more").down(reserved=4)
+        path = talk.then(2 * SECOND).save(self.folder, "rules.pcap")
+        found, _, _ = lines(path)
+        rules = {line["kind"] for line in found if line["allowed"]}
+        self.assertEqual(rules, {"reserved bits", "sent again early"})
+        self.assertLessEqual({"acknowledged apart", "length of the text"}, {line["kind"] for line in found if line["sqrun"]})
+        self.assertTrue(all(not line["sqrun"] for line in found if line["kind"] in rules or line["side"] == "client"))
+        alone = called("--alone", "--each", path)[1]
+        self.assertIn("captured: 0100; allowed: 0000", alone)
+        self.assertNotIn("sqrun:", alone)
+        self.assertIn("<td class=\"long\">allowed: 0000<", called("--sqrun", program(), "--page", path)[1])
+
+    def test_a_capture_with_each_datagram_twice(self):
+        """sqrun gets none of the client's copies: nothing differs. Where one alone is doubled, as a wire may do, it gets both."""
+        talk = Talk().up(SYN, options=MSS, number=1).down(SYN | ACK, options=MSS, number=2).up(number=3).up(ACK | PSH, b"hello", number=4).down(
+            ACK | PSH, b"hello", number=5).up(number=6).up(ACK | FIN, number=7).down(ACK | FIN, number=8).up(number=9)
+        talk.records = [(at + later, body) for at, body in talk.records for later in (0, 10)]
+        path = talk.save(self.folder, "twice.pcap")
+        found, _, status = lines(path)
+        self.assertEqual([(line["kind"], line["side"], line["count"]) for line in found], [("captured twice", "server", 3), ("captured twice", "client", 6)])
+        self.assertEqual(status, 0)
+        self.assertIn("6 segments that the capture has twice left out for sqrun", called("--sqrun", program(), path)[1])
+        talk.records = [record for n, record in enumerate(talk.records) if n % 2 == 0 or n in (7, 9)]
+        self.assertNotIn("left out", called("--sqrun", program(), talk.save(self.folder, "one.pcap"))[1])
+
+    def test_alike_is_not_the_same(self):
+        """Without an identification two resets are two, and two texts of about one time have the same bytes, which may be one datagram."""
+        talk = Talk().open().echo().down(RST, wait=10).down(RST, seq=6, wait=34)
+        found, _, _ = lines(talk.save(self.folder, "resets.pcap"))
+        self.assertEqual([(line["kind"], line["captured"]) for line in found], [("reset", "2 times"), ("state at the end", "LISTEN")])
+        talk = Talk().open().up(ACK | PSH, b"hello").down(ACK | PSH, b"hello").down(ACK | PSH, b"hello", seq=1, wait=34).up()
+        found, _, _ = lines(talk.save(self.folder, "texts.pcap"))
+        self.assertEqual([(line["kind"], line["captured"]) for line in found], [("captured twice", "the same bytes 34 µs later, without an identification")])
 
     def test_must_alone_and_chosen_connections(self):
         text = self.said("--must", self.path)
