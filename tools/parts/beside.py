@@ -9,6 +9,7 @@ from drawing import display_filter, figure, plural, seconds, text
 from segments import SCALE, options
 from served import rows
 from standards import KINDS, VERDICTS
+from told import allowed, of_sqrun
 
 HERE = Path(__file__).resolve().parent
 NOT_PROVED = ("Nothing on this page is proved: the proof speaks of sqrun's answers alone, and this tool judges the captured server by what the capture shows. "
@@ -17,7 +18,7 @@ WIDTH, LEFT, MIDDLE, RIGHT, ROW, HEAD = 1180, 110, 600, 1090, 31, 66
 MOST, FIRST, LAST = 90, 60, 25
 MOST_LISTED, MOST_OTHERS = 1_000, 200        # connections with tables
 STATES = {"LISTEN": "closed", "": "unknown"}        # of the captured server
-HEADS = '<tr><th>verdict<th>kind<th>captured<th>sqrun<th class="n">times<th>frames<th>section'
+HEADS = '<tr><th>verdict<th>kind<th>captured<th>sqrun, or what is allowed<th class="n">times<th>frames<th>section'
 STYLE = """
 .fig .arrow.MUST,.fig .arrow.SHOULD{stroke:var(--again);stroke-width:2.2}.fig text.MUST,.fig text.SHOULD{fill:var(--again)}
 """
@@ -116,18 +117,16 @@ def diagram(compared):
 
 def alone(compared):
     """The diagram as a file of its own."""
-    svg = diagram(compared)
-    at = svg.index(">") + 1
-    return '<?xml version="1.0" encoding="UTF-8"?>\n' + svg[:at] + f"<style>{drawing.STYLE}{ladder.STYLE}{STYLE}</style>" + svg[at:] + "\n"
+    return drawing.as_file(diagram(compared), drawing.STYLE + ladder.STYLE + STYLE)
 
 
-def difference_rows(compared):
+def difference_rows(one):
     out = []
-    for d in sorted(compared.differences, key=lambda d: VERDICTS.index(d.verdict)):
+    for d in sorted(one.differences, key=lambda d: VERDICTS.index(d.verdict)):
         kind = KINDS[d.kind]
         frames = ", ".join(map(str, d.frames)) + (" .." if d.count > len(d.frames) > 0 else "")
-        out.append(f'<tr><td class="verdict {d.verdict}">{d.verdict}<td>{escape(d.kind)}<td class="long">{escape(d.captured)}'
-                   f'<td class="long">{escape(d.reference)}<td class="n">{d.count:,}<td>{frames}<td class="section">{escape(kind.section)}')
+        out.append(f'<tr><td class="verdict {d.verdict}">{d.verdict}<td>{escape(d.kind)}<td class="long">{escape(d.captured + f"; unjudged, since {d.why}" * bool(d.why))}'
+                   f'<td class="long">{escape(f"allowed: {allowed(d)}" if allowed(d) else of_sqrun(one, d))}<td class="n">{d.count:,}<td>{frames}<td class="section">{escape(kind.section)}')
     return "".join(out)
 
 
@@ -150,7 +149,7 @@ def page(title, outcome, compared, others, summary, drawn, notes):
     head = ("<!DOCTYPE html>\n<html lang=\"en\"><head><meta charset=\"utf-8\">"
             "<meta http-equiv=\"Content-Security-Policy\" content=\"default-src 'none'; style-src 'unsafe-inline'\">"
             "<meta name=\"viewport\" content=\"width=device-width\">"
-            f"<title>{escape(title)}</title><style>{(HERE / 'page.css').read_text()}{drawing.STYLE}{ladder.STYLE}{STYLE}{PAGE_STYLE}</style></head><body>")
+            f"<title>{escape(title)}</title><style>{(HERE / 'page.css').read_text()}{drawing.NAMED}{drawing.STYLE}{ladder.STYLE}{STYLE}{PAGE_STYLE}</style></head><body>")
     shown = [n for n, c in enumerate(compared) if n in drawn or any(map(is_its_own, c.differences))][:MOST_LISTED]
     there = {f"conn{compared[n].number}life{compared[n].life}" for n in shown} | {place(one) for one in others[:MOST_OTHERS]}
     lines = "".join(f'<tr><td class="verdict {s.verdict}">{s.verdict}<td>{escape(s.kind.name)}<td class="n">{s.connections:,}<td class="n">{s.times:,}'

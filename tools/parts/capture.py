@@ -30,6 +30,7 @@ class Segment:
     mss: int | None = None
     datagram: bytes = b""   # the IPv4 datagram that brought it
     record: int = -1        # its place among all records, from 0
+    real: int | None = None # its time in the capture, where sqrun is told a later one
 
     def has(self, flag):
         return bool(self.flags & flag)
@@ -185,6 +186,8 @@ def items(segments, last):
         at = segment.at if clock is None else max(clock, segment.at)
         if clock is not None and at - clock >= TIMER_GAP:
             out.append(at)
+        if at != segment.at:
+            segment.real = segment.at
         clock = segment.at = at
         out.append(segment)
     return out + [last]

@@ -26,6 +26,7 @@ class Conversation:
     client: list = field(default_factory=list)
     server: list = field(default_factory=list)
     broken: list = field(default_factory=list)      # (time, record) of what is no whole segment
+    short: list = field(default_factory=list)       # (whose, bytes of text by its lengths) of each of these that the capture cut
 
     @property
     def tuple(self):
@@ -68,6 +69,7 @@ class Place:
     end: int | None             # None where the segment isn't whole
     packet: int | None = None   # where an IPv4 header stands
     first: bool = True          # whether it begins with a TCP header, and isn't a later fragment
+    cut: int | None = None      # of a segment that the capture cut, its bytes of text by the lengths that it tells
 
     def ends(self, body):
         """(address, port) of both ends, or None where the ports aren't there."""
@@ -81,10 +83,10 @@ def tcp_of(link, body):
     """The TCP segment of a body, or None."""
     at, version = packet_at(link, body)
     if version == 4 and len(body) >= at + 20 and body[at + 9] == TCP:
-        tcp, length = at + 4 * (body[at] & 15), int.from_bytes(body[at + 2:at + 4], "big") or len(body) - at
+        tcp, end = at + 4 * (body[at] & 15), at + (int.from_bytes(body[at + 2:at + 4], "big") or len(body) - at)
         whole = tcp >= at + 20 and not (body[at + 6] & 0x3f or body[at + 7])
-        return Place(bytes(body[at + 12:at + 16]), bytes(body[at + 16:at + 20]), tcp, end_of(body, tcp, at + length) if whole else None, at,
-                     not (body[at + 6] & 0x1f or body[at + 7]))
+        return Place(bytes(body[at + 12:at + 16]), bytes(body[at + 16:at + 20]), tcp, end_of(body, tcp, end) if whole else None, at,
+                     not (body[at + 6] & 0x1f or body[at + 7]), cut_text(body, tcp, end) if whole else None)
     return tcp_of_6(body, at) if version == 6 and len(body) >= at + 40 else None
 
 
@@ -98,7 +100,7 @@ def tcp_of_6(body, at):
         kind, tcp = body[tcp], tcp + (8 if kind == FRAGMENT else 8 + 8 * body[tcp + 1])
     if kind != TCP:
         return None
-    return Place(bytes(body[at + 8:at + 24]), bytes(body[at + 24:at + 40]), tcp, end_of(body, tcp, end) if whole else None, None, first)
+    return Place(bytes(body[at + 8:at + 24]), bytes(body[at + 24:at + 40]), tcp, end_of(body, tcp, end) if whole else None, None, first, cut_text(body, tcp, end) if whole else None)
 
 
 def pseudo(place, size):
@@ -111,6 +113,11 @@ def pseudo(place, size):
 def end_of(body, tcp, end):
     """The segment's end, where all of it is there and its header fits."""
     return end if end <= len(body) and end - tcp >= 20 and 20 <= (body[tcp + 12] >> 2 & 60) <= end - tcp else None
+
+
+def cut_text(body, tcp, end):
+    """How much text a segment has that isn't all there, where its header is."""
+    return max(0, end - tcp - (body[tcp + 12] >> 2 & 60)) if end > len(body) > tcp + 12 else None
 
 
 class Reader:
@@ -133,6 +140,7 @@ class Reader:
         if found.end is None:
             if conversation := self.open.get(frozenset(ends)):
                 conversation.broken.append((at, number))
+                conversation.short += [(ends[0], found.cut)] * (found.cut is not None)
             return
         tcp = body[found.header:found.end]
         segment = tcp_segment(at, bytes(body[found.packet:found.end] if found.packet is not None else self.numbered(ends) + tcp),

@@ -24,9 +24,11 @@ class Row:
     again_down: int
     end: str                # closed, reset or open
     reference: str
+    cut: int                # segments that the capture cut short; their bytes are those of their lengths
 
     def texts(self):
-        return (self.client, self.server, f"{self.up:,}", f"{self.down:,}", seconds(self.time), f"{self.again_up:,}", f"{self.again_down:,}", self.end, self.reference)
+        last = "; ".join([self.reference] * bool(self.reference) + [f"{self.cut:,} cut short"] * bool(self.cut))
+        return (self.client, self.server, f"{self.up:,}", f"{self.down:,}", seconds(self.time), f"{self.again_up:,}", f"{self.again_down:,}", self.end, last)
 
     def rank(self):
         """What one should look at stands first."""
@@ -61,11 +63,11 @@ def end_of(client, server):
 def row(conversation, served):
     parts, both = lives(conversation), conversation.client + conversation.server
     client, server = conversation.tuple.split(" ")
-    count = lambda segments: sum(s.length for s in segments)
+    count = lambda segments, whose: sum(s.length for s in segments) + sum(size for end, size in conversation.short if end == whose)
     times = [s.at for s in both] or [0]
-    told = "" if served is None else f"{served.service}: {count(served.replies):,} bytes, {'closed' if served.end in CLOSED else served.end}"
-    return Row(client, server, count(conversation.client), count(conversation.server), max(times) - min(times), sum(again(side) for side, _ in parts),
-               sum(again(side) for _, side in parts), end_of(*parts[-1]), told)
+    told = "" if served is None else f"{served.service}: {sum(s.length for s in served.replies):,} bytes, {'closed' if served.end in CLOSED else served.end}"
+    return Row(client, server, count(conversation.client, conversation.client_end), count(conversation.server, conversation.server_end), max(times) - min(times),
+               sum(again(side) for side, _ in parts), sum(again(side) for _, side in parts), end_of(*parts[-1]), told, len(conversation.short))
 
 
 def total(rows):

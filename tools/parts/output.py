@@ -4,6 +4,7 @@ A file is written beside its place, and takes its name when all is there. Links 
 """
 import errno
 import os
+import re
 import signal
 import stat
 import sys
@@ -21,6 +22,8 @@ FULL = (errno.ENOSPC, errno.EDQUOT, errno.EFBIG)
 
 def begin():
     """To be called first: told to stop, a tool removes what it has half written; and a standard end that is closed is never another file."""
+    if signal.getsignal(signal.SIGINT) is signal.SIG_DFL:
+        signal.signal(signal.SIGINT, signal.default_int_handler)
     for asks in (signal.SIGTERM, signal.SIGHUP):
         if signal.getsignal(asks) is signal.SIG_DFL:
             signal.signal(asks, lambda number, _: sys.exit(128 + number))
@@ -86,6 +89,18 @@ def writable(path):
 def is_plain(path):
     """Whether it's a plain file, or none yet."""
     return not os.path.exists(path) or os.path.isfile(path)
+
+
+def named(path, ending):
+    """Where what wasn't named goes on a terminal: into a file beside one, named after its capture, and never one that is there. Elsewhere to standard output."""
+    if not (sys.stdout and sys.stdout.isatty()):
+        return None
+    name = re.sub(r"(\.(gz|xz|bz2|zst))?$", "", Path(path).name if path != "-" else "capture")
+    to = re.sub(r"\.(pcap|pcapng|cap)$", "", name) + ending
+    if os.path.lexists(to):
+        raise Refused(f"{to!r} is there already: name a file by -o", 2)
+    check([to], ())
+    return to
 
 
 @contextmanager

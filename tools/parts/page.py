@@ -159,7 +159,7 @@ def head(title, script):
     return ("<!DOCTYPE html>\n<html lang=\"en\"><head><meta charset=\"utf-8\">"
             f"<meta http-equiv=\"Content-Security-Policy\" content=\"default-src 'none'; style-src 'unsafe-inline'; script-src 'sha256-{digest}'\">"
             "<meta name=\"viewport\" content=\"width=device-width\">"
-            f"<title>{escape(title)}</title><style>{(HERE / 'page.css').read_text()}{STYLE}</style></head><body>")
+            f"<title>{escape(title)}</title><style>{(HERE / 'page.css').read_text()}{drawing.NAMED}{STYLE}</style></head><body>")
 
 
 def timeline(report, whole, drawn, chosen, marks):
@@ -201,9 +201,3 @@ def page(title, report, whole, drawn, chosen_squeues, marks, left_out, interests
     for c in drawn:
         out.append(connection(c, report, whole, interests[c].reasons, len(drawn) <= TABLES_MOST))
     return "".join(out) + f"<script>{script}</script></body></html>\n"
-
-
-def alone(svg):
-    """One figure as a file of its own."""
-    at = svg.index(">") + 1
-    return '<?xml version="1.0" encoding="UTF-8"?>\n' + svg[:at] + f"<style>{STYLE}</style>" + svg[at:] + "\n"

@@ -18,7 +18,7 @@ KEY = ((BAR.format("ring"), "a ring has it, and the feeds processed"), (BAR.form
        (BAR.format("worker"), "the worker"), ('<path class="fill" d="M11 5h8l-4 8z"/>', "feeds queued"),
        ('<circle class="ask" cx="15" cy="9" r="4"/>', "asked"),
        ('<path class="grant" d="M15 2V14"/><circle class="grant" cx="15" cy="14" r="2.6"/>', "granted"),
-       ('<path class="take" style="stroke:var(--muted)" d="M15 2V16"/>', "took the queue"),
+       ('<path class="take" d="M15 2V16"/>', "took the queue"),
        ('<path class="move" d="M2 5C14 5 14 13 26 13"/><circle class="moveend" cx="26" cy="13" r="3"/>', "a block moved"),
        ('<path class="waiting" d="M2 9H28"/>', "queued, nobody has it"),
        ('<path class="polling" d="M3 2h24v14h-24z"/>', "polling"), ('<path class="close" d="M12 6l6 6m0 -6l-6 6"/>', "closed"))
@@ -303,7 +303,7 @@ def told(report, conns, followed, chosen, window, linked):
 
 def legend():
     """The signs of the timeline with their words, which wrap as words do."""
-    return "".join(f'<span><svg class="fig" viewBox="0 0 30 18" width="30" height="18" aria-hidden="true">{sign}</svg>{escape(words)}</span>' for sign, words in KEY)
+    return "".join(f'<span><svg class="fig sign" viewBox="0 0 30 18" width="30" height="18" aria-hidden="true">{sign}</svg>{escape(words)}</span>' for sign, words in KEY)
 
 
 def stays(names, height, under):
@@ -379,7 +379,7 @@ STYLE = """
 .fig .own{fill:var(--ring)}.fig .own.thread{fill:var(--thread)}.fig .own.worker{fill:var(--worker)}
 .fig path.own{fill:var(--ring)}.fig path.own.thread{fill:var(--thread)}.fig path.own.worker{fill:var(--worker)}
 .fig .in{fill:var(--paper);font-size:9.5px;pointer-events:none}.fig .t{font-size:9.5px}.fig .point{fill:var(--room);opacity:.35}
-.fig .take{stroke:var(--paper);stroke-width:1.6;stroke-dasharray:2 2}
+.fig .take{stroke:var(--paper);stroke-width:1.6;stroke-dasharray:2 2}.sign .take{stroke:var(--muted)}
 .fig path.fill{fill:var(--paper);stroke:var(--ring);stroke-width:1.6;stroke-linejoin:round}
 .fig .ask{fill:var(--paper);stroke:var(--thread);stroke-width:1.8}
 .fig path.grant{stroke:var(--ink);stroke-width:1.4;stroke-dasharray:3 2}.fig circle.grant{fill:var(--ink)}

@@ -3,7 +3,7 @@ from capture import RST
 from listing import end_of
 from timeseq import kinds, lives
 
-FIELDS = ("connection", "client", "server", "service", "captured_port", "first_frame", "last_frame", "begins_us", "ends_us", "lives",
+FIELDS = ("connection", "client", "server", "service", "captured_port", "first_frame", "last_frame", "begins_us", "ends_us", "lives", "not_whole",
           "client_segments", "client_bytes", "client_again", "client_resets", "server_segments", "server_bytes", "server_again", "server_resets",
           "replies", "reply_bytes", "replies_again", "reply_resets", "answers", "captured_end", "end")
 
@@ -23,7 +23,7 @@ def one(number, conn, served, report, ports):
         "connection": number, "client": client, "server": server, "service": served.service,
         "captured_port": ports.real_port(client, server) if ports else mapped,
         "first_frame": first.record + 1, "last_frame": max(s.record for s in conn.client + conn.server) + 1,
-        "begins_us": first.at, "ends_us": max(s.at for s in conn.client + conn.server), "lives": len(used),
+        "begins_us": first.at, "ends_us": max(s.at for s in conn.client + conn.server), "lives": len(used), "not_whole": len(conn.broken) // 2,
         "client_segments": len(conn.client), "client_bytes": sum(s.length for s in conn.client),
         "client_again": sum(kinds(life.client, life.irs).count("again") for life in used), "client_resets": sum(s.has(RST) for s in conn.client),
         "server_segments": len(conn.server), "server_bytes": sum(s.length for s in conn.server),

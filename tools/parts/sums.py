@@ -1,19 +1,21 @@
 """Segments with a wrong checksum, and what a capture can tell of them: a network card fills them in later, or the wire has spoilt them.
 
-A receiver drops what is spoilt, so nothing is judged by it. That a sender computes wrong can't be told from a wire that spoils bits.
+A receiver drops what is spoilt, so nothing is judged by it. That a sender computes wrong can't be told from a wire that spoils bits. What the
+capture holds twice is found here too.
 """
 from collections import Counter
 from dataclasses import dataclass, field
 
 import capture
 from packets import total
-from segments import header
+from segments import copies, header
 
 
 @dataclass
 class Sums:
     card: set = field(default_factory=set)          # records of segments that the sender's card was to finish
     spoilt: dict = field(default_factory=dict)      # by a connection's two ends the segments that are left out
+    copies: set = field(default_factory=set)        # records of the clients' segments that no server got: the capture has most of a connection twice
 
     def records(self):
         return {s.record for segments in self.spoilt.values() for s in segments}
@@ -44,7 +46,7 @@ def judged(conns):
             if not right(segment):
                 wrong.append((conn.tuple, segment))
     failed = Counter(segment.datagram[12:16] for _, segment in wrong)
-    out = Sums()
+    out = Sums(copies={record for conn in conns for record in doubled(conn)})
     for ends, segment in wrong:
         host = segment.datagram[12:16]
         if begun(segment) or 2 * failed[host] > sent[host]:
@@ -52,6 +54,13 @@ def judged(conns):
         else:
             out.spoilt.setdefault(ends, []).append(segment)
     return out
+
+
+def doubled(conn):
+    """The client's copies, where most segments of both directions are there twice: else the wire may have doubled them, and the server got both."""
+    mine, theirs = ([s.record for s, _ in copies(segments)] for segments in (conn.client, conn.server))
+    both = len(mine) + len(theirs)
+    return mine if mine and theirs and 3 * both > len(conn.client) + len(conn.server) else ()
 
 
 def of(captures):

@@ -13,7 +13,7 @@ LINES = 10                  # of the first screen
 GROUPS = 25                 # of connections that differ alike
 SHOWN = 3                   # connections that are named of a group
 COLOURS = {"MUST": "31;1", "SHOULD": "33;1", "service": "36", "choice": "2", "unjudged": "2"}
-FIELDS = ("connection", "life", "ends", "side", "kind", "verdict", "section", "count", "frame", "frames", "at_us", "captured", "sqrun")
+FIELDS = ("connection", "life", "ends", "side", "kind", "verdict", "section", "count", "frame", "frames", "at_us", "frames_at_us", "captured", "sqrun", "allowed", "why")
 
 
 @dataclass
@@ -39,9 +39,13 @@ class Line:
     """A kind over all connections."""
     kind: object
     verdict: str
-    connections: int = 0
+    ends: set = field(default_factory=set)          # of the connections that have it, in whatever life and on whatever side
     times: int = 0
     first: list = field(default_factory=list)       # some of the (One, Difference) that have it
+
+    @property
+    def connections(self):
+        return len(self.ends)
 
 
 @dataclass
@@ -49,18 +53,22 @@ class Outcome:
     """How many there are, and what became of them."""
     connections: int = 0            # that the reference served
     compared: int = 0               # of these, those with a segment of the server
-    differ: int = 0
+    differ: int = 0                 # in what the standards ask for, or the service
+    free: int = 0                   # in what is free or unjudged alone
+    vague: bool = False             # of these some in what is unjudged
     judged: int = 0                 # others, by their segments alone
     parted: int = 0
     left: int = 0                   # of 100 segments of all compared, those behind a parting
     unfinished: int = 0
+    must: int = 0                   # how often one is broken
+    should: int = 0
+    doubts: int = 0                 # how often a MUST can't be judged
 
-    def words(self, must):
+    def words(self):
         """In a line."""
-        alike = self.connections - self.differ
-        out = [f"a MUST is broken {plural(must, 'time')}" if must else "no MUST is broken"]
+        out = [self.broken()] + [f"{plural(self.doubts, 'time')} a MUST can't be judged"] * bool(self.doubts)
         if self.connections or not self.judged:
-            out.append(f"{plural(self.connections, 'connection')}: {self.differ:,} {'differs' if self.differ == 1 else 'differ'}, {alike:,} {'is' if alike == 1 else 'are'} alike")
+            out.append(plural(self.connections, "connection") + ": " * bool(self.connections) + self.differing())
         if self.judged:
             out.append(f"{self.judged:,} {'others ' if self.connections else ''}judged by the segments alone")
         if self.parted:
@@ -69,6 +77,20 @@ class Outcome:
             out.append(f"the capture ends before {self.unfinished:,}")
         return "; ".join(out)
 
+    def broken(self):
+        if not (self.compared or self.judged):
+            return "nothing is compared"
+        if not (self.must or self.should or self.doubts):
+            return "no MUST, no SHOULD is broken"
+        must = f"a MUST is broken {plural(self.must, 'time')}" if self.must else "no MUST is found broken" if self.doubts else "no MUST is broken"
+        return must + (f", a SHOULD {plural(self.should, 'time')}" if self.should else ", no SHOULD")
+
+    def differing(self):
+        verb = lambda n, one, many: f"{n:,} {one if n == 1 else many}"
+        alike = self.connections - self.differ - self.free
+        return ", ".join([verb(self.differ, "differs", "differ")] * bool(self.differ) + [verb(self.free, "differs", "differ") + " in what is free" + " or unjudged" * self.vague] * bool(self.free)
+                         + [verb(alike, "is alike", "are alike")] * bool(alike))
+
 
 def summed(listed):
     """The kinds that occur, the gravest first."""
@@ -76,7 +98,7 @@ def summed(listed):
     for one in listed:
         for difference in one.differences:
             line = out.setdefault((difference.kind, difference.verdict), Line(KINDS[difference.kind], difference.verdict))
-            line.connections += 1
+            line.ends.add(one.ends)
             line.times += difference.count
             if len(line.first) < 5:
                 line.first.append((one, difference))
@@ -84,16 +106,27 @@ def summed(listed):
     return sorted(out.values(), key=lambda line: (VERDICTS.index(line.verdict), order.index(line.kind.name)))
 
 
-def musts(summary):
-    return sum(line.times for line in summary if line.verdict == "MUST")
+def times(summary, verdict, rule=None):
+    """How often the verdict is said, or only of rules that are this."""
+    return sum(line.times for line in summary if line.verdict == verdict and rule in (None, line.kind.verdict))
 
 
 def where(one, d):
     return f"frame {d.frame} at {seconds(max(0, d.at - one.begun))}: " if d.frame else ""
 
 
-def sides(d):
-    return f"captured: {d.captured}" + (f"; sqrun: {d.reference}" if d.reference else "")
+def allowed(d):
+    """What the rule allows that this is against."""
+    return d.reference if KINDS[d.kind].verdict in ("MUST", "SHOULD") else ""
+
+
+def of_sqrun(one, d):
+    """What sqrun did, where it ran and is compared."""
+    return "" if one.alone or allowed(d) else d.reference
+
+
+def sides(one, d):
+    return f"captured: {d.captured}" + f"; sqrun: {of_sqrun(one, d)}" * bool(of_sqrun(one, d)) + f"; allowed: {allowed(d)}" * bool(allowed(d)) + f"; unjudged, since {d.why}" * bool(d.why)
 
 
 def free(summary):
@@ -106,7 +139,7 @@ def grave(line, paint, width):
     """A line of the first screen: the verdict, what, how often, and where first."""
     one, d = line.first[0]
     many = f" ({plural(line.times, 'time')}" + (f" in {plural(line.connections, 'connection')}" if line.connections > 1 else "") + ")" if line.times > 1 else ""
-    text = f"{d.kind}{many}: {where(one, d)}{sides(d)} [{line.kind.section}] {one.name()}"
+    text = f"{d.kind}{many}: {where(one, d)}{sides(one, d)} [{line.kind.section}] {one.name()}"
     return f"  {paint(f'{line.verdict:8}', COLOURS[line.verdict])} {cut(text, width - 11)}"
 
 
@@ -118,8 +151,8 @@ def cut(text, width):
 def first_screen(outcome, summary, notes, terminal, more):
     """At most ten lines: what came out, the gravest kinds, what is free, and how to see more. `more` says whether there is more to see."""
     paint = painted(terminal)
-    must = musts(summary)
-    out = [paint(outcome.words(must), "31;1" if must else "32;1" if outcome.compared or outcome.judged else ""), *["; ".join(notes)] * bool(notes)]
+    colour = "31;1" if outcome.must else "33;1" if outcome.doubts else "32;1" if outcome.compared or outcome.judged else ""
+    out = [paint(outcome.words(), colour), *["; ".join(notes)] * bool(notes)]
     told, rest = [line for line in summary if line.verdict != "choice"], free(summary)
     room = LINES - len(out) - len(rest) - more
     shown = told if len(told) <= room else told[:room - 1]
@@ -134,7 +167,7 @@ def by_connection(listed, summary, paint=lambda text, _: text):
     out = [f"  {paint(f'{line.verdict:8}', COLOURS[line.verdict])} {line.kind.name:42} {plural(line.connections, 'connection'):16} {plural(line.times, 'time'):12} {line.kind.section}" for line in summary]
     for line in (line for line in summary if line.verdict == "choice"):
         one, d = line.first[0]
-        out.append(f"  choice   {d.kind}: {where(one, d)}{sides(d)} ({one.name()}{' and others' * (line.connections > 1)})")
+        out.append(f"  choice   {d.kind}: {where(one, d)}{sides(one, d)} ({one.name()}{' and others' * (line.connections > 1)})")
     groups = {}
     for one in listed:
         told = tuple(sorted({(d.kind, d.verdict) for d in one.differences if d.verdict != "choice"}))
@@ -152,7 +185,7 @@ def group_lines(ones, paint):
     for d in sorted(ones[0].differences, key=lambda d: VERDICTS.index(d.verdict)):
         if d.verdict != "choice":
             times = f" ({d.count:,} times)" if d.count > 1 else ""
-            out.append(f"  {paint(f'{d.verdict:8}', COLOURS[d.verdict])} {d.kind}{times}: {where(ones[0], d)}{sides(d)} [{KINDS[d.kind].section}]")
+            out.append(f"  {paint(f'{d.verdict:8}', COLOURS[d.verdict])} {d.kind}{times}: {where(ones[0], d)}{sides(ones[0], d)} [{KINDS[d.kind].section}]")
     return out
 
 
@@ -162,13 +195,13 @@ def rows(listed):
         for d in one.differences:
             kind = KINDS[d.kind]
             yield {"connection": one.number, "life": one.life, "ends": one.ends, "side": one.side, "kind": d.kind, "verdict": d.verdict, "section": kind.section,
-                   "count": d.count, "frame": d.frame, "frames": d.frames, "at_us": d.at, "captured": d.captured, "sqrun": d.reference}
+                   "count": d.count, "frame": d.frame, "frames": d.frames, "at_us": d.times[0] if d.times else d.at, "frames_at_us": d.times, "captured": d.captured, "sqrun": of_sqrun(one, d), "allowed": allowed(d), "why": d.why}
 
 
 def last_row(outcome, summary):
     """The last line of JSON."""
     return {"connections": outcome.connections, "compared": outcome.compared, "judged": outcome.judged, "parted": outcome.parted, "not_compared": outcome.left,
-            "unfinished": outcome.unfinished, "must": musts(summary),
+            "unfinished": outcome.unfinished, "must": outcome.must,
             "summary": [{"kind": line.kind.name, "verdict": line.verdict, "section": line.kind.section, "rule": line.kind.rule,
                          "connections": line.connections, "times": line.times} for line in summary]}
 

@@ -193,6 +193,24 @@ class Output(unittest.TestCase):
         shutil.copyfile(self.capture, self.folder / "c.pcapng.gz")
         subprocess.run(["script", "-qec", words.replace("a.pcap", "c.pcapng.gz"), "/dev/null"], cwd=self.folder, capture_output=True, text=True)
         self.assertTrue((self.folder / "c.sqrun.html").exists())
+        for shape, name in (("--page", "a.sqdiff.html"), ("--svg", "a.sqdiff.svg")):
+            words = " ".join(map(str, (TOOLS / "sqdiff", "--sqrun", f"'{program()}'", shape, self.capture)))
+            for told in (f"wrote '{name}'", f"'{name}' is there already"):
+                done = subprocess.run(["script", "-qec", words, "/dev/null"], cwd=self.folder, capture_output=True, text=True)
+                self.assertIn(told, done.stdout)
+                self.assertNotIn("<svg", done.stdout)
+            self.assertIn("</svg>", (self.folder / name).read_text())
+
+    def test_told_to_stop_while_it_starts(self):
+        """Control-C before a tool is at its work ends it without a word."""
+        for tool in ("sq", "sqdiff", "sqplot", "sqpcap", "sqshard"):
+            done = subprocess.Popen([TOOLS / tool, "--help"], stdout=subprocess.DEVNULL, stderr=subprocess.PIPE, text=True)
+            while done.poll() is None and not catches(done.pid, signal.SIGINT):
+                pass
+            while done.poll() is None and catches(done.pid, signal.SIGINT):
+                pass
+            done.send_signal(signal.SIGINT)
+            self.assertEqual((done.communicate(timeout=60)[1], done.returncode), ("", -signal.SIGINT), tool)
 
 
 class Pipes(unittest.TestCase):

@@ -366,6 +366,23 @@ class Lines(Folder):
         self.assertTrue(total.startswith("2 connections: 2 closed; 105 bytes up, 105 down"))
         self.assertTrue(total.endswith("sqrun serves 0"))
 
+    def test_packets_cut_short(self):
+        """Their bytes are those of the lengths in their headers, over IPv4 and IPv6, and how many there are is told; JSON and CSV too."""
+        talk = Talk().open().echo(b"x" * 1_000).echo(b"y" * 500).close()
+        for changed, ends in ((lambda body: body, ["10.0.0.1:4000", "10.0.0.2:7"]), (as_ipv6, ["[fd00::a00:1]:4000", "[fd00::a00:2]:7"])):
+            packets = [(at, changed(body)) for at, body in talk.records]
+            data = struct.pack("<IHHiIII", 0xa1b2c3d4, 2, 4, 0, 0, 76, 101)
+            for at, body in packets:
+                data += struct.pack("<IIII", at // 1_000_000, at % 1_000_000, min(76, len(body)), len(body)) + body[:76]
+            (self.folder / "cut.pcap").write_bytes(data)
+            _, line, total = self.shown(self.folder / "cut.pcap")
+            self.assertEqual(line.split()[:4], [*ends, "1,500", "1,500"])
+            self.assertTrue(line.endswith("4 cut short"), line)
+            self.assertTrue(total.startswith("1 connection: 1 closed; 1,500 bytes up, 1,500 down"), total)
+        write(self.folder / "cut.pcap", [(at, body[:76]) for at, body in talk.records], 101)
+        found = json.loads(sq("--json", self.folder / "cut.pcap").splitlines()[0])
+        self.assertEqual((found["client_bytes"], found["not_whole"]), (0, 4))
+
     def test_tshark_counts_the_same(self):
         """Bytes both ways of each connection of real captures, as tshark's own statistics have them."""
         need("tshark")

@@ -161,6 +161,23 @@ class Graphs(unittest.TestCase):
                 self.assertEqual(svg.get("role"), "img")
                 self.assertTrue(svg.find(SVG + "title").text and svg.find(SVG + "desc").text)
 
+    def test_files_are_drawn_by_others(self):
+        """librsvg knows neither names of colours nor strokes that aren't scaled: a file has each colour written out, by day and by night, and its plot in pixels."""
+        text = sqrun(EXAMPLE, "--trace").decode()
+        for figure in ("squeues", "up", "down", "ladder"):
+            said = plot(text, "--capture", EXAMPLE, "--figure", figure)
+            self.assertNotIn("var(", said)
+            self.assertNotIn("scale(", said)
+            self.assertEqual(said.count("{"), said.count("}"))
+            self.assertIn("stroke:#c2410c", said)
+            self.assertIn("stroke:#ff9b6a", said[said.index("prefers-color-scheme:dark"):])
+        page, alone = plot(text, "--capture", EXAMPLE), plot(text, "--capture", EXAMPLE, "--conn", 0, "--figure", "down")
+        numbers = lambda said: [[float(n) for n in re.findall(r"[\d.]+", d)] for d in re.findall(r'class="seg new" d="([^"]*)"', said)]
+        here, there = numbers(page[page.index('id="c0down"'):])[1], numbers(alone)[1]            # the first one is the key's
+        wide, high = timeseq.PLOT_WIDTH / timeseq.UNITS, timeseq.PLOT_HEIGHT / timeseq.UNITS
+        for n, (a, b) in enumerate(zip(here, there, strict=True)):
+            self.assertAlmostEqual(a * (wide if n % 3 == 0 else high), b, places=1)
+
     def test_ladder_has_each_segment_and_reply(self):
         text = sqrun(EXAMPLE).decode()
         report = reports.read(text, "report")
@@ -234,8 +251,8 @@ class Graphs(unittest.TestCase):
             parts = [int(digits[i:i + 2], 16) / 255 for i in (0, 2, 4)]
             return sum(w * (c / 12.92 if c <= .04045 else ((c + .055) / 1.055) ** 2.4) for w, c in zip((.2126, .7152, .0722), parts))
         shown = float(re.search(r"\.fig \.real\{[^}]*opacity:([.\d]+)", timeseq.PLOT_STYLE)[1])
-        for theme in drawing.STYLE.split("@media"):
-            colours = dict(re.findall(r"--(\w+):#(\w+)", theme))
+        for theme in (0, 1):
+            colours = {name: pair[theme][1:] for name, pair in drawing.COLOURS.items()}
             paper, real = ([int(colours[name] * (1 if len(colours[name]) == 6 else 2), 16) for name in ("paper", "real")])
             mixed = lambda shift: round(shown * (real >> shift & 255) + (1 - shown) * (paper >> shift & 255))
             colours["real"] = f"{mixed(16):02x}{mixed(8):02x}{mixed(0):02x}"        # as it lies on the paper

@@ -5,8 +5,9 @@
 --     SQDIFF=trace.csv tshark -X lua_script:tools/wireshark/squeues.lua -r trace.pcapng -Y 'squeues.verdict == "MUST"'
 --
 -- Each frame that sqdiff names gets a tree with the verdict, the rule's name and section, whose it is, and what was captured; a MUST is
--- an error of the expert information, a SHOULD a warning. A frame whose ends aren't those of the line is left alone. The file
--- may also be named in the preferences of the protocol "squeues". Nothing here is proved, and nothing judges: it shows what stands in the file.
+-- an error of the expert information, a SHOULD a warning. A frame whose ends or time aren't those of the line is left alone, and said to be of
+-- another capture. The file may also be named in the preferences of the protocol "squeues". Nothing here is proved, and nothing judges: it
+-- shows what stands in the file.
 
 local squeues = Proto("squeues", "Verdicts of sqdiff")
 local fields = {
@@ -16,8 +17,9 @@ local fields = {
     side = ProtoField.string("squeues.side", "Side"),
     captured = ProtoField.string("squeues.captured", "Captured"),
     sqrun = ProtoField.string("squeues.sqrun", "Reference (sqrun)"),
+    allowed = ProtoField.string("squeues.allowed", "Allowed"),
 }
-local order = { "verdict", "kind", "section", "side", "captured", "sqrun" }
+local order = { "verdict", "kind", "section", "side", "captured", "sqrun", "allowed" }
 local severities = {
     MUST = ProtoExpert.new("squeues.must", "A MUST is broken", expert.group.PROTOCOL, expert.severity.ERROR),
     SHOULD = ProtoExpert.new("squeues.should", "A SHOULD isn't followed", expert.group.PROTOCOL, expert.severity.WARN),
@@ -29,7 +31,14 @@ squeues.fields = fields
 squeues.experts = severities
 squeues.prefs.file = Pref.string("Verdicts", "", "What `sqdiff --csv -o FILE` wrote; without it the environment's SQDIFF")
 
-local verdicts = {}         -- by the number of a frame its lines
+local verdicts = {}         -- by the number of a frame its lines, each with the time that the frame has there, in microseconds
+local source = ""           -- their file
+local said = {}             -- what was complained of already
+
+local function complain(words)
+    if not said[words] then report_failure("squeues: " .. words) end
+    said[words] = true
+end
 
 -- The fields of one line of CSV (RFC 4180), and the rest of the text behind it.
 local function record(text, at)
@@ -64,27 +73,48 @@ local function record(text, at)
     end
 end
 
+-- Whether a line of names has all that is looked for.
+local function is_named(names)
+    local there = {}
+    for _, name in ipairs(names or {}) do there[name] = true end
+    return there.ends and there.frames and there.frames_at_us and there.verdict and there.kind and there.captured and there.section
+end
+
+-- The numbers of a field, which blanks part.
+local function numbers(text)
+    local out = {}
+    for number in (text or ""):gmatch("%d+") do out[#out + 1] = tonumber(number) end
+    return out
+end
+
 -- Reads the file's lines, by the names of its first.
 local function read(name)
-    verdicts = {}
+    verdicts, source = {}, name
     local file = name ~= "" and io.open(name, "rb")
     if not file then
-        if name ~= "" then report_failure("squeues: " .. name .. " can't be read") end
+        if name ~= "" then complain(name .. " can't be read") end
         return
     end
     local text = file:read("*a")
     file:close()
     local names, at = record(text, 1)
-    while names and at <= #text do
+    if not is_named(names) then
+        complain(name .. " isn't what `sqdiff --csv` writes")
+        return
+    end
+    while at <= #text do
         local values
         values, at = record(text, at)
-        if not values or not at then return end
+        if not values or not at then
+            complain(name .. " ends inside a line")
+            return
+        end
         local line = {}
         for n, field in ipairs(names) do line[field] = values[n] or "" end
-        for number in (line.frames or ""):gmatch("%d+") do
-            local frame = tonumber(number)
+        local times = numbers(line.frames_at_us)
+        for n, frame in ipairs(numbers(line.frames)) do
             verdicts[frame] = verdicts[frame] or {}
-            table.insert(verdicts[frame], line)
+            table.insert(verdicts[frame], { line = line, at = times[n] or -1 })
         end
     end
 end
@@ -100,13 +130,21 @@ local function is_of(line, pinfo)
     return first == one and second == other or first == other and second == one
 end
 
+-- Whether the packet has this time. (Wireshark tells seconds, to some tenths of a microsecond.)
+local function is_then(at, pinfo)
+    return math.abs(pinfo.abs_ts * 1e6 - at) < 2
+end
+
 function squeues.init()
     read(squeues.prefs.file ~= "" and squeues.prefs.file or os.getenv("SQDIFF") or "")
 end
 
 function squeues.dissector(buffer, pinfo, tree)
-    for _, line in ipairs(verdicts[pinfo.number] or {}) do
-        if is_of(line, pinfo) then
+    for _, named in ipairs(verdicts[pinfo.number] or {}) do
+        local line = named.line
+        if not (is_of(line, pinfo) and is_then(named.at, pinfo)) then
+            complain(source .. " is of another capture: what it says of some frames isn't shown")
+        else
             local branch = tree:add(squeues, buffer(0, 0), "sqdiff: " .. line.verdict .. ": " .. line.kind .. " [" .. line.section .. "]")
             for _, name in ipairs(order) do
                 if line[name] ~= "" then branch:add(fields[name], buffer(0, 0), line[name]):set_generated() end
