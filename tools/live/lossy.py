@@ -1,5 +1,5 @@
 #!/usr/bin/python3
-"""Prints the seconds of an echo of 1 MiB over impaired wires, to `sqlive` and to Linux in its place: the median of five, and both beside each other.
+"""Prints the seconds of an echo of 1 MiB over impaired wires, to `sqlive` and to Linux in its place: the median of three, and both beside each other.
 
     sudo tools/live/lossy.py PROGRAM        for the table of docs/LIVE.md; on a quiet machine, or behind chrt -r 1
 """
@@ -29,7 +29,7 @@ def seconds(program, impairments, seed):
     with subprocess.Popen(words, stdout=subprocess.PIPE, text=True) as wire:
         assert wire.stdout.readline() == "ready\n", "the wire doesn't start"
         begin = time.monotonic()
-        clients.echo(1 << 20, timeout=200)
+        clients.echo(1 << 20, timeout=600)
         took = time.monotonic() - begin
         wire.terminate()
         wire.communicate()
@@ -42,7 +42,7 @@ def main():
     new_namespace()
     print("| Wire | `sqlive` | Linux | beside |\n|---|---|---|---|")
     for name, impairments in WIRES:
-        ours, theirs = (statistics.median(seconds(program, impairments, seed) for seed in range(1, 6)) for program in programs)
+        ours, theirs = (statistics.median(seconds(program, impairments, seed) for seed in range(1, 4)) for program in programs)
         print(f"| {name} | {ours:.2f} | {theirs:.2f} | {ours / theirs:.1f} |", flush=True)
 
 
