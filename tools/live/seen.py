@@ -97,6 +97,13 @@ class Lossy:
         return self.count()
 
 
+def opened_to_write(path, more=0):
+    """A file, which is made where there is none. A pipe that nobody reads isn't waited for: it is an OSError."""
+    file = os.open(path, os.O_WRONLY | os.O_CREAT | os.O_CLOEXEC | os.O_NONBLOCK | more, 0o644)
+    os.set_blocking(file, True)
+    return file
+
+
 def begin_capture(file):
     """Empties an open file, and writes the head of a capture of raw IP."""
     if stat.S_ISREG(os.fstat(file).st_mode):

@@ -708,7 +708,7 @@ class Launcher(unittest.TestCase):
     def refused(self, *words, files=None):
         """What is said of words that are refused with the usage line, before a device is opened; the launcher may have so many files."""
         limit = (files,) * 2 if files else resource.getrlimit(resource.RLIMIT_NOFILE)
-        done = subprocess.run([TOOLS / "sqlive", "--program", "/bin/true", *words], capture_output=True, text=True,
+        done = subprocess.run([TOOLS / "sqlive", "--program", "/bin/true", *words], capture_output=True, text=True, timeout=60,
                               preexec_fn=lambda: resource.setrlimit(resource.RLIMIT_NOFILE, limit))
         self.assertEqual((done.returncode, done.stdout), (2, ""), words)
         self.assertIn("usage: sqlive", done.stderr)
@@ -736,6 +736,28 @@ class Launcher(unittest.TestCase):
             Path(capture.name).write_text("of another launcher")
             self.assertIn(f"--capture {capture.name} is there, and isn't empty", self.refused("--capture", capture.name))
             self.assertEqual(Path(capture.name).read_text(), "of another launcher")
+
+    def test_one_file_for_both(self):
+        """By its name, by links, and where it isn't there yet."""
+        with tempfile.TemporaryDirectory() as folder:
+            names = [Path(folder, name) for name in ("new", "empty", "link", "hard", "dangling")]
+            names[1].touch()
+            names[2].symlink_to(names[1])
+            names[3].hardlink_to(names[1])
+            names[4].symlink_to(names[0])
+            for log, capture in ((0, 0), (0, 4), (1, 1), (1, 2), (2, 3)):
+                self.assertIn("is written already", self.refused("--device", "lo", "--log", names[log], "--capture", names[capture]))
+            self.assertFalse(names[0].exists())
+
+    def test_a_pipe_that_nobody_reads(self):
+        with tempfile.TemporaryDirectory() as folder:
+            os.mkfifo(pipe := f"{folder}/pipe")
+            for word in ("--log", "--capture"):
+                self.assertIn(f"{word} {pipe}: no program reads this pipe", self.refused("--device", "lo", word, pipe))
+
+    def test_no_name_of_a_file(self):
+        for word in ("--log", "--capture"):
+            self.assertIn(f"{word} wants the name of a file, and - is none", self.refused("--device", "lo", word, "-"))
 
     def test_a_log_grows(self):
         """A launcher that finds no device adds nothing to what is there."""
