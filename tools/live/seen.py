@@ -5,14 +5,15 @@ import select
 import socket
 import stat
 import struct
-import sys
 import threading
 import time
 from collections import OrderedDict
 from dataclasses import dataclass
 from pathlib import Path
 
+from ends_log import Log
 from tcp_segments import ACK, FIN, RST, SYN
+from telling import tell
 
 ETH_P_ALL, SOL_PACKET, PACKET_STATISTICS, SO_ATTACH_FILTER, SO_RCVBUFFORCE = 3, 263, 6, 26, 33
 # So much memory holds what isn't read yet.
@@ -97,13 +98,6 @@ class Lossy:
         return self.count()
 
 
-def opened_to_write(path, more=0):
-    """A file, which is made where there is none. A pipe that nobody reads isn't waited for: it is an OSError."""
-    file = os.open(path, os.O_WRONLY | os.O_CREAT | os.O_CLOEXEC | os.O_NONBLOCK | more, 0o644)
-    os.set_blocking(file, True)
-    return file
-
-
 def begin_capture(file):
     """Empties an open file, and writes the head of a capture of raw IP."""
     if stat.S_ISREG(os.fstat(file).st_mode):
@@ -139,7 +133,7 @@ class Capture:
             self.end += written
         except OSError as error:
             self.cut(written)
-            print(f"sqlive: the capture ends here: {error.strerror}", file=sys.stderr, flush=True)
+            tell(f"the capture ends here: {error.strerror}")
         self.waiting = []
 
     def cut(self, written):
@@ -171,23 +165,6 @@ class Connection:
         return bool(flags & ACK) and (ack - self.answer) % 2**32 <= MOST_UNDER_WAY
 
 
-class Log:
-    """A line for each connection that was open, when it ends: the time, the client, the port, for how many seconds, and how it ended."""
-    def __init__(self, file):
-        self.file = file
-
-    def tell(self, ends, since, how):
-        client, theirs, ours = socket.inet_ntoa(ends[:4]), *struct.unpack(">HH", ends[4:])
-        at = time.time()
-        line = f"{time.strftime('%Y-%m-%dT%H:%M:%S', time.gmtime(at))}.{int(at * 1000) % 1000:03}Z {client}:{theirs} {ours} {time.monotonic() - since:.3f} {how}\n"
-        try:
-            if self.file is not None:
-                os.write(self.file, line.encode())
-        except OSError as error:
-            self.file = None
-            print(f"sqlive: the log ends here: {error.strerror}", file=sys.stderr, flush=True)
-
-
 class Connections:
     """How many connections there were at these ports of a server, by the segments that open or end one.
 
@@ -197,7 +174,7 @@ class Connections:
     MOST = 1 << 17
 
     def __init__(self, server, ports, log=None):
-        self.server, self.ports, self.known, self.log = server.packed, frozenset(ports), OrderedDict(), log or Log(None)
+        self.server, self.ports, self.known, self.log = server.packed, frozenset(ports), OrderedDict(), log or Log()
         self.asked = self.opened = self.open = self.refused = self.resets_in = self.resets_out = 0
 
     def over(self, ends, how):

@@ -25,6 +25,7 @@ from unittest import mock
 from common import TOOLS, TOP, need
 
 sys.path.insert(0, str(TOOLS / "live"))
+import ends_log
 import floods
 import http_model
 import orders
@@ -151,8 +152,8 @@ class Counted(unittest.TestCase):
 
     def test_the_log(self):
         """A line for each connection that was open, when it ends."""
-        with tempfile.TemporaryFile() as log:
-            self.connections = seen.Connections(ipaddress.ip_address(SERVER), (7, 9), seen.Log(log.fileno()))
+        with tempfile.NamedTemporaryFile() as log:
+            self.connections = seen.Connections(ipaddress.ip_address(SERVER), (7, 9), ends_log.Log(log.name))
             for client in range(1, 6):
                 self.comes(SYN, client=client)
                 self.goes(SYN | ACK, client=client)
@@ -179,6 +180,78 @@ class Counted(unittest.TestCase):
             self.comes(ACK, client=client)
         self.assert_counted(asked=5, opened=5, open=3)
         self.assertEqual(len(self.connections.known), 3)
+
+
+class Logs(unittest.TestCase):
+    """The file of a log, whose lines are those of connections that end."""
+    ENDS = CLIENT + struct.pack(">HH", 40000, 7)
+    LINE = r"\d{4}-\d\d-\d\dT\d\d:\d\d:\d\d\.\d{3}Z 10\.9\.0\.1:40000 7 \d+\.\d{3} closed\n"
+
+    def setUp(self):
+        folder = tempfile.TemporaryDirectory()
+        self.addCleanup(folder.cleanup)
+        self.path = Path(folder.name, "log")
+
+    def tell(self, log, count=1):
+        with contextlib.redirect_stderr(io.StringIO()) as said:
+            for _ in range(count):
+                log.tell(self.ENDS, time.monotonic(), "closed")
+        return said.getvalue()
+
+    def assert_lines(self, count, begins="", path=None):
+        self.assertRegex((path or self.path).read_text(), f"^{begins}({self.LINE}){{{count}}}$")
+
+    def test_whose_end_is_no_line(self):
+        """Such a file is somebody else's, and stays as it is."""
+        self.tell(ends_log.Log(self.path), 2)
+        line = self.path.read_bytes().splitlines(True)[0]
+        for other in (struct.pack("<IHHIIII", 0xA1B2C3D4, 2, 4, 0, 0, 65535, 101), b"text\n", b"text", b"\n", line + b"text\n", line + b"text", line + b"\n", b"7" * 200, line + bytes(9)):
+            self.path.write_bytes(other)
+            self.assertRaisesRegex(ends_log.NoLog, "no line of a log", ends_log.Log, self.path)
+            self.assertEqual(self.path.read_bytes(), other)
+
+    def test_a_line_that_was_cut(self):
+        """It stays, and the next one is a line of its own; nothing is written before there is one."""
+        for before in ("", "2026-12-01T19:45:31.011Z 10.9.0.1:56548 7 0.000 closed\n"):
+            for cut in ("2", "2026-12-01T19:45:31.0", "2026-12-01T19:45:31.011Z 10.9.0.1:56548 7 0.000 closed"):
+                self.path.write_text(before + cut)
+                log = ends_log.Log(self.path)
+                self.assertEqual(self.path.read_text(), before + cut)
+                self.assertEqual(self.tell(log, 2), "")
+                self.assert_lines(2, re.escape(f"{before}{cut}\n"))
+
+    def test_a_full_disk(self):
+        """No line is cut; the log goes on when there is space again, and both are told once."""
+        log, limits = ends_log.Log(self.path), resource.getrlimit(resource.RLIMIT_FSIZE)
+        self.tell(log, 2)
+        resource.setrlimit(resource.RLIMIT_FSIZE, (self.path.stat().st_size + 20, limits[1]))
+        try:
+            self.assertEqual(self.tell(log, 3), "sqlive: the log can't be written: File too large\n")
+        finally:
+            resource.setrlimit(resource.RLIMIT_FSIZE, limits)
+        self.assert_lines(2)
+        self.assertEqual(self.tell(log, 2), "sqlive: the log goes on; it lacks 3 lines\n")
+        self.assert_lines(4)
+        self.assertEqual(log.lacks, 3)
+
+    def test_one_that_is_moved(self):
+        """The next line begins a new file at its name."""
+        log, moved = ends_log.Log(self.path), self.path.with_name("log.1")
+        self.tell(log, 2)
+        self.path.rename(moved)
+        self.assertEqual(self.tell(log, 3), "")
+        self.assert_lines(3)
+        self.assert_lines(2, path=moved)
+        moved.replace(self.path)
+        self.tell(log)
+        self.assert_lines(3)
+
+    def test_another_file_in_its_place(self):
+        log = ends_log.Log(self.path)
+        self.path.unlink()
+        self.path.write_text("somebody's\n")
+        self.assertRegex(self.tell(log, 2), "^sqlive: the log can't be written: .* no line of a log.*\n$")
+        self.assertEqual((self.path.read_text(), log.lacks), ("somebody's\n", 2))
 
 
 class Resets(unittest.TestCase):
@@ -762,10 +835,16 @@ class Launcher(unittest.TestCase):
     def test_a_log_grows(self):
         """A launcher that finds no device adds nothing to what is there."""
         with tempfile.NamedTemporaryFile() as log:
-            Path(log.name).write_text("of yesterday\n")
+            Path(log.name).write_text(of_yesterday := "2026-12-01T19:45:31.011Z 10.9.0.1:56548 7 0.000 closed\n")
             done = subprocess.run([TOOLS / "sqlive", "--program", "/bin/true", "--device", "lo", "--log", log.name], capture_output=True, text=True)
-            self.assertEqual((done.returncode, Path(log.name).read_text()), (1, "of yesterday\n"))
+            self.assertEqual((done.returncode, Path(log.name).read_text()), (1, of_yesterday))
         self.assertIn("no TUN device", done.stderr)
+
+    def test_a_file_that_is_no_log(self):
+        with tempfile.NamedTemporaryFile() as other:
+            Path(other.name).write_bytes(b"of somebody\n")
+            self.assertIn(f"--log {other.name}: it ends with no line of a log", self.refused("--device", "lo", "--log", other.name))
+            self.assertEqual(Path(other.name).read_bytes(), b"of somebody\n")
 
     def test_the_unit_file(self):
         need("systemd-analyze")
