@@ -3,12 +3,12 @@ import contextlib
 import os
 import re
 import socket
-import sys
 import threading
 import time
 from pathlib import Path
 
 import orders
+import telling
 
 
 def places(device):
@@ -39,7 +39,7 @@ def listening(device):
         except OSError as error:
             listens.close()
             why = error
-    print(f"sqlive: it serves without status: {why}", file=sys.stderr)
+    telling.tell(f"it serves without status: {why}")
     return None
 
 
@@ -107,24 +107,24 @@ def tell(device, follow, prometheus=False):
     try:
         return shown(device, facts, follow, prometheus)
     except BrokenPipeError:
-        # who reads has enough, as `head` does; nothing is left to be written at the end
-        os.dup2(os.open(os.devnull, os.O_WRONLY), sys.stdout.fileno())
-        return None
+        return None  # who reads has enough, as `head` does
+    except OSError as error:
+        return f"sqlive: standard output: {error.strerror}"
 
 
 def shown(device, facts, follow, prometheus):
     """Prints these facts, and follows them. Why they aren't all, or None."""
     if prometheus:
-        print(end=exposition(facts), flush=True)
+        telling.write(exposition(facts))
     elif not follow:
-        print(end="".join(f"{fact} {value}\n" for fact, value in facts.items()), flush=True)
+        telling.write("".join(f"{fact} {value}\n" for fact, value in facts.items()))
     why = why_not_all(device, facts)
     with contextlib.suppress(KeyboardInterrupt):
         while follow and not prometheus and facts:
             time.sleep(1)
             before, facts = facts, facts_of(device)
             if facts:
-                print(line_of_second(before, facts), flush=True)
+                telling.write(f"{line_of_second(before, facts)}\n")
     return why
 
 

@@ -1,5 +1,6 @@
 """Tests of the live server's tools: datagrams written and read again, what is counted, and a few cases of live_test where they can run."""
 import contextlib
+import ctypes
 import io
 import ipaddress
 import json
@@ -35,6 +36,7 @@ import rings
 import seen
 import status
 import tcp_segments
+import wire
 from compiled import compiled
 from programs import built
 from tcp_segments import ACK, FIN, PSH, RST, SYN
@@ -467,6 +469,13 @@ sqlive_opened_total 5
             done = subprocess.run([sys.executable, "-c", asked], capture_output=True, text=True)
         self.assertEqual((done.returncode, done.stderr), (0, ""))
 
+    def test_a_full_disk(self):
+        with open("/dev/full", "w") as full:
+            done = subprocess.run([TOOLS / "sqlive", "status", "--device", "nowhere"], stdout=full, stderr=subprocess.PIPE, text=True)
+            self.assertEqual((done.returncode, done.stderr), (1, "sqlive: no tools/sqlive runs on nowhere in this network namespace\n"))
+            with status.told("sqlive0", self.Knows()), contextlib.redirect_stdout(full):
+                self.assertEqual(status.tell("sqlive0", False), "sqlive: standard output: No space left on device")
+
     def test_why_that_is_not_all(self):
         self.assertRegex(status.why_not_all("sqlive0", {}), "no tools/sqlive runs on sqlive0")
         self.assertRegex(status.why_not_all("sqlive0", {"open": "3"}), "told no counts")
@@ -533,6 +542,11 @@ class Compiled(unittest.TestCase):
                 source.write_text("int main(void) { return 4; }")
                 self.assertRaisesRegex(OSError, "takes a C compiler", compiled, source)
             self.assertEqual(subprocess.run([compiled(source)]).returncode, 4)
+            for broken, mode in ((b"x", 0o644), (b"x", 0o755), (b"", 0o755), (first.read_bytes(), 0o644)):
+                made = compiled(source)
+                made.write_bytes(broken)
+                made.chmod(mode)
+                self.assertEqual(subprocess.run([compiled(source)]).returncode, 4)
             source.write_text("no C")
             self.assertRaisesRegex(OSError, "can't compile", compiled, source)
             self.assertEqual(len(list(first.parent.iterdir())), 2)
@@ -775,6 +789,63 @@ class ForAllRings(unittest.TestCase):
         self.assertEqual([self.next_of(1) for _ in range(2)], [order, too_long])
         self.devices[1].send(order)
         self.assertEqual([self.next_of(1), self.next_of(0)], [order, order])
+
+
+class OnADevice(unittest.TestCase):
+    """The launcher with the program, in a network namespace of each test's own."""
+    WORDS = TOOLS / "sqlive", "--program", SQLIVE, "--device", "test0", "--grace", "0"
+
+    def setUp(self):
+        need("ip")
+        if not os.access(SQLIVE, os.X_OK):
+            self.skipTest("no sqlive: run ./build sqlive or tools/try-build --fast sqlive, or name it by SQLIVE")
+        if os.geteuid() != 0 or not os.path.exists("/dev/net/tun"):
+            self.skipTest("a device takes root, and TUN")
+        before = os.open("/proc/thread-self/ns/net", os.O_RDONLY | os.O_CLOEXEC)
+        self.addCleanup(os.close, before)
+        wire.new_namespace()
+        self.addCleanup(ctypes.CDLL(None).setns, before, wire.CLONE_NEWNET)
+
+    def start(self, *words, **streams):
+        """The launcher, once it serves."""
+        launcher = subprocess.Popen([*self.WORDS, *words], **{"stdout": subprocess.PIPE, "stderr": subprocess.PIPE, "text": True, **streams})
+        self.addCleanup(self.finish, launcher)
+        if launcher.stdout:
+            self.assertIn("echo on 10.9.0.2", launcher.stdout.readline())
+        return launcher
+
+    @staticmethod
+    def finish(launcher):
+        launcher.kill()
+        launcher.communicate()
+
+    def ended(self, launcher):
+        """Its status, and what it says on standard error but for what is built without proof."""
+        said = launcher.communicate(timeout=60)[1]
+        return launcher.returncode, [line for line in said.splitlines() if "without any proof" not in line]
+
+    def echo(self, text=b"text"):
+        """A connection that echoes, as soon as the server does."""
+        for _ in range(100):
+            with contextlib.suppress(OSError):
+                client = socket.create_connection(("10.9.0.2", 7), timeout=5)
+                break
+            time.sleep(0.05)
+        self.addCleanup(client.close)
+        client.sendall(text)
+        self.assertEqual(client.recv(100), text)
+        return client
+
+    def test_words_that_nobody_takes(self):
+        """It serves, whatever becomes of its line."""
+        reads, closed = os.pipe()
+        os.close(reads)
+        for output in (open("/dev/full", "w"), open(closed, "w")):
+            with output:
+                launcher = self.start(stdout=output)
+            self.echo()
+            launcher.terminate()
+            self.assertEqual(self.ended(launcher), (0, []))
 
 
 class Launcher(unittest.TestCase):
