@@ -176,6 +176,8 @@ class Connections:
     def __init__(self, server, ports, log=None):
         self.server, self.ports, self.known, self.log = server.packed, frozenset(ports), OrderedDict(), log or Log()
         self.asked = self.opened = self.open = self.refused = self.resets_in = self.resets_out = 0
+        # whether the server has ended: then clients' resets only answer the launcher's
+        self.left = False
 
     def over(self, ends, how):
         found = self.known.pop(ends, None)
@@ -236,7 +238,7 @@ class Connections:
             self.resets_out += 1
         else:
             self.refused += 1
-        self.over(ends, "reset-by-client" if inward else "reset-by-server")
+        self.over(ends, "reset-by-server" if not inward else "left-open" if self.left else "reset-by-client")
 
     def still_open(self, most):
         """Both ends and what was seen of each open connection whose client acknowledged something; of more than so many the youngest."""

@@ -824,13 +824,14 @@ class OnADevice(unittest.TestCase):
         said = launcher.communicate(timeout=60)[1]
         return launcher.returncode, [line for line in said.splitlines() if "without any proof" not in line]
 
+    @staticmethod
+    def program(launcher, place=0):
+        """One of the processes that the launcher started: the program, or with rings behind it what moves its datagrams."""
+        return int(Path(f"/proc/{launcher.pid}/task/{launcher.pid}/children").read_text().split()[place])
+
     def echo(self, text=b"text"):
-        """A connection that echoes, as soon as the server does."""
-        for _ in range(100):
-            with contextlib.suppress(OSError):
-                client = socket.create_connection(("10.9.0.2", 7), timeout=5)
-                break
-            time.sleep(0.05)
+        """A connection that echoes."""
+        client = socket.create_connection(("10.9.0.2", 7), timeout=30)
         self.addCleanup(client.close)
         client.sendall(text)
         self.assertEqual(client.recv(100), text)
@@ -843,9 +844,32 @@ class OnADevice(unittest.TestCase):
         for output in (open("/dev/full", "w"), open(closed, "w")):
             with output:
                 launcher = self.start(stdout=output)
+            while not status.facts_of("test0"):
+                self.assertIsNone(launcher.poll())
+                time.sleep(0.05)
             self.echo()
             launcher.terminate()
             self.assertEqual(self.ended(launcher), (0, []))
+
+
+    def test_the_log_of_what_the_launcher_resets(self):
+        """The client's own reset only answers the launcher's: the server ended first. So it is behind each way of ending, and with rings."""
+        for words, end in (((), signal.SIGTERM), (("--grace", "1"), signal.SIGTERM), (("--grace", "30"), signal.SIGINT), ((), signal.SIGKILL), (("--rings", "2"), signal.SIGTERM)):
+            with self.subTest(words=words, end=end), tempfile.NamedTemporaryFile() as log:
+                launcher = self.start(*words, "--log", log.name)
+                with self.echo() as client, self.echo() as resets:
+                    resets.setsockopt(socket.SOL_SOCKET, socket.SO_LINGER, struct.pack("ii", 1, 0))
+                    resets.close()
+                    time.sleep(0.2)
+                    if end == signal.SIGKILL:
+                        os.kill(self.program(launcher), end)
+                    for _ in range(1 if end == signal.SIGTERM else 2):
+                        time.sleep(0.2)
+                        launcher.send_signal(end if end != signal.SIGKILL else signal.SIGTERM)
+                    self.ended(launcher)
+                    if not words:
+                        self.assertRaises(ConnectionResetError, client.recv, 1)
+                self.assertEqual([line.split()[-1] for line in Path(log.name).read_text().splitlines()], ["reset-by-client", "left-open"])
 
 
 class Launcher(unittest.TestCase):
