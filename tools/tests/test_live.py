@@ -837,6 +837,24 @@ class OnADevice(unittest.TestCase):
         self.assertEqual(client.recv(100), text)
         return client
 
+    def refused(self, *words):
+        """What is said where it doesn't serve."""
+        done = subprocess.run([*self.WORDS, *words], capture_output=True, text=True, timeout=60)
+        self.assertEqual((done.returncode, done.stdout), (1, ""), words)
+        return done.stderr
+
+    def test_no_device(self):
+        """It names the cause: another kind of device, one that is in use, or a name that the kernel keeps for itself."""
+        self.start()
+        for name, why in (("lo", "lo is a device of another kind"), ("test0", "there is a device test0 already, as another tools/sqlive has it"),
+                          ("all", "the kernel takes no device of the name all"), ("default", "the kernel takes no device of the name default")):
+            for words in ((), ("--rings", "2")):
+                self.assertIn(f"no TUN device: {why}", self.refused("--device", name, *words))
+
+    def test_another_way_to_the_server(self):
+        subprocess.run(["ip", "route", "add", "10.9.0.2/32", "dev", "lo"], check=True)
+        self.assertIn("sqlive: this machine reaches 10.9.0.2 by lo, and not by test0", self.refused())
+
     def test_words_that_nobody_takes(self):
         """It serves, whatever becomes of its line."""
         reads, closed = os.pipe()
@@ -898,6 +916,12 @@ class Launcher(unittest.TestCase):
             self.assertIn(said, self.refused(*words.split()))
         self.assertIn("it takes 56 file descriptors, 5 of them for each ring, and may have 32", self.refused("--rings", "8", files=32))
         self.assertIn("it takes 72 file descriptors, 5 of them for each ring, and may have 64", self.refused("--rings", "8", "--pages", "/", files=64))
+
+    def test_addresses_that_nobody_serves(self):
+        """Those whose segments the program drops, and the network's own and its broadcast address."""
+        for host, server in (("240.0.0.1/24", "240.0.0.2"), ("0.0.0.1/8", "0.0.0.2"), ("127.0.0.1/8", "127.0.0.2"), ("224.0.0.1/24", "224.0.0.2"), ("10.9.0.0/24", "10.9.0.2"),
+                             ("10.9.0.255/24", "10.9.0.2"), ("126.0.0.1/7", "127.0.0.2"), ("127.0.0.1/7", "126.0.0.2"), ("223.0.0.1/3", "255.0.0.2")):
+            self.assertIn("no host's address", self.refused("--device", "lo", "--host", host, "--server", server))
 
     def test_a_capture_that_is_there_is_kept(self):
         with tempfile.NamedTemporaryFile() as capture:
