@@ -855,6 +855,26 @@ class OnADevice(unittest.TestCase):
         subprocess.run(["ip", "route", "add", "10.9.0.2/32", "dev", "lo"], check=True)
         self.assertIn("sqlive: this machine reaches 10.9.0.2 by lo, and not by test0", self.refused())
 
+    def test_who_ended(self):
+        """The program, what moves its datagrams, or the device."""
+        for words, place, said in (((), 0, "the program was ended by SIGKILL"), (("--rings", "2"), 0, "the program was ended by SIGKILL"),
+                                   (("--rings", "2"), 1, "queues.c, which moves datagrams, was ended by SIGKILL")):
+            launcher = self.start(*words)
+            os.kill(self.program(launcher, place), signal.SIGKILL)
+            self.assertEqual(self.ended(launcher), (1, [f"sqlive: {said}"]))
+        for words in ((), ("--rings", "2")):
+            launcher = self.start(*words)
+            subprocess.run(["ip", "link", "del", "test0"], check=True)
+            status, told = self.ended(launcher)
+            self.assertEqual((status, told[-1]), (1, "sqlive: the device test0 is gone"))
+
+    def test_a_program_that_is_none(self):
+        with tempfile.TemporaryDirectory() as folder:
+            (none := Path(folder, "none")).write_text("no program")
+            none.chmod(0o755)
+            done = subprocess.run([*self.WORDS, "--program", none], capture_output=True, text=True)
+        self.assertEqual((done.returncode, done.stderr), (1, f"sqlive: {none} can't be started: Exec format error\n"))
+
     def test_words_that_nobody_takes(self):
         """It serves, whatever becomes of its line."""
         reads, closed = os.pipe()
