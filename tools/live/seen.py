@@ -41,6 +41,13 @@ def comes_to(server):
             (0x06, 0, 0, 80), (0x06, 0, 0, 0))
 
 
+def with_numbers(*numbers):
+    """Takes the head of each datagram that has these numbers, as (how many bytes, where, which): BPF as above."""
+    load = {1: 0x30, 2: 0x28, 4: 0x20}
+    steps = [step for left, (size, at, number) in zip(range(len(numbers), 0, -1), numbers) for step in ((load[size], 0, 0, at), (0x15, 0, 2 * left - 1, number))]
+    return (*steps, (0x06, 0, 0, 80), (0x06, 0, 0, 0))
+
+
 def attach(taps, only, level=socket.SOL_SOCKET, option=SO_ATTACH_FILTER):
     """A tap gets what this filter takes, from now on; what it got before is still there."""
     filtered = ctypes.create_string_buffer(b"".join(struct.pack("HBBI", *step) for step in only))

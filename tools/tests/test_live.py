@@ -875,6 +875,33 @@ class OnADevice(unittest.TestCase):
             done = subprocess.run([*self.WORDS, "--program", none], capture_output=True, text=True)
         self.assertEqual((done.returncode, done.stderr), (1, f"sqlive: {none} can't be started: Exec format error\n"))
 
+    def order(self, text, port):
+        """An order from a port of the host."""
+        with socket.socket(socket.AF_INET, socket.SOCK_DGRAM) as host:
+            host.bind(("10.9.0.1", port))
+            host.sendto(text, ("10.9.0.2", orders.SYSTAT))
+
+    def test_a_drain_of_somebody_else(self):
+        """It is told once; counts are nobody's secret, and who has no right is passed over. The launcher's own isn't told."""
+        launcher = self.start("--grace", "1")
+        for text, port in ((b"counts", 900), (b"drain", 2000), (b"drains", 900), (b"drain", 900), (b"drain", 901)):
+            self.order(text, port)
+        time.sleep(0.3)
+        self.assertEqual(status.facts_of("test0")["draining"], "1")
+        launcher.terminate()
+        self.assertEqual(self.ended(launcher), (0, ["sqlive: 10.9.0.1 port 900 told the server to drain, and this launcher didn't"]))
+        launcher = self.start("--grace", "1")
+        self.echo()
+        launcher.terminate()
+        self.assertEqual(self.ended(launcher), (0, []))
+
+    def test_ports_that_take_no_right(self):
+        Path("/proc/sys/net/ipv4/ip_unprivileged_port_start").write_text("900")
+        launcher = self.start()
+        launcher.terminate()
+        self.assertEqual(self.ended(launcher), (0, ["sqlive: all users of this machine may give the server orders, as to drain: "
+                                                    "sysctl net.ipv4.ip_unprivileged_port_start is 900, and not 1024"]))
+
     def test_words_that_nobody_takes(self):
         """It serves, whatever becomes of its line."""
         reads, closed = os.pipe()
