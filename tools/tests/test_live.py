@@ -939,12 +939,13 @@ class OnADevice(unittest.TestCase):
 
 class Launcher(unittest.TestCase):
     def refused(self, *words, files=None):
-        """What is said of words that are refused with the usage line, before a device is opened; the launcher may have so many files."""
+        """What is said in one line of words that are refused, before a device is opened; the launcher may have so many files."""
         limit = (files,) * 2 if files else resource.getrlimit(resource.RLIMIT_NOFILE)
-        done = subprocess.run([TOOLS / "sqlive", "--program", "/bin/true", *words], capture_output=True, text=True, timeout=60,
+        program = () if "status" in words else ("--program", "/bin/true")
+        done = subprocess.run([TOOLS / "sqlive", *program, *words], capture_output=True, text=True, timeout=60,
                               preexec_fn=lambda: resource.setrlimit(resource.RLIMIT_NOFILE, limit))
-        self.assertEqual((done.returncode, done.stdout), (2, ""), words)
-        self.assertIn("usage: sqlive", done.stderr)
+        self.assertEqual((done.returncode, done.stdout, done.stderr.count("\n")), (2, "", 1), (words, done.stderr))
+        self.assertRegex(done.stderr, "^sqlive: .* [(]--help tells all words[)]\n$")
         return done.stderr
 
     def test_words_that_are_none(self):
@@ -952,6 +953,13 @@ class Launcher(unittest.TestCase):
         self.assertIn("from 1 to 63", self.refused("--rings", "64"))
         for words in (("--rings", "0"), ("--rings", "2", "--mode", "none"), ("--places", "-1"), ("--server", "10.9.0.1"), ("--server", "10.8.0.2"), ("--mtu", "500")):
             self.refused(*words)
+
+    def test_words_of_another_mode(self):
+        for words, said in (("--follow", "--follow goes with status"), ("--prometheus", "--prometheus goes with status"), ("--single-segments", "--single-segments goes with --rings"),
+                            ("--mode fill", "--mode goes with --rings"), ("status --rings 4", "--rings doesn't go with status"), ("status --log zz", "--log doesn't go with status"),
+                            ("status --single-segments", "--single-segments doesn't go with status"), ("status --grace 3", "--grace doesn't go with status"),
+                            ("status --prometheus --follow", "--prometheus tells all once, and --follow a line each second")):
+            self.assertIn(said, self.refused("--device", "lo", *words.split()))
 
     def test_bounds_are_told(self):
         for words, said in (("--memory 4096", "from 1 to 4095"), ("--idle 4294967296", "from 1 to 4294967295"), ("--places 4294967296", "from 1 to 4294967295"),
