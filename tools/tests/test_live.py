@@ -29,6 +29,7 @@ sys.path.insert(0, str(TOOLS / "live"))
 import ends_log
 import floods
 import http_model
+import meanings
 import orders
 import pages
 import resets
@@ -433,33 +434,41 @@ class Status(unittest.TestCase):
         self.assertRegex(said.getvalue(), "^sqlive: it serves without status: .*\n$")
 
     def test_the_format_of_prometheus(self):
-        facts = {"seconds": "1.5", "open": 3, "ring_0_in": 5, "ring_0_out": 6, "ring_1_in": 7, "ring_1_out": 8, "answers": 3, "answers_200": 2, "answers_other": 1,
-                 "connections": 2, "opened_total": 5}
-        self.assertEqual(status.exposition(facts), """# TYPE sqlive_seconds counter
-sqlive_seconds 1.5
+        facts = {"seconds": "1.5", "open": 3, "ring_0_in": 5, "ring_1_in": 7, "answers_200": 2, "answers_other": 1, "connections": 2, "opened_total": 5}
+        self.assertEqual(status.exposition("sqlive0", facts), """# HELP sqlive_seconds For how many seconds the server has run.
+# TYPE sqlive_seconds counter
+sqlive_seconds{device="sqlive0"} 1.5
+# HELP sqlive_open Connections that were seen to open, and not to end.
 # TYPE sqlive_open gauge
-sqlive_open 3
+sqlive_open{device="sqlive0"} 3
+# HELP sqlive_ring_in Datagrams that a ring was brought.
 # TYPE sqlive_ring_in counter
-sqlive_ring_in{ring="0"} 5
-sqlive_ring_in{ring="1"} 7
-# TYPE sqlive_ring_out counter
-sqlive_ring_out{ring="0"} 6
-sqlive_ring_out{ring="1"} 8
-# TYPE sqlive_answers counter
-sqlive_answers 3
+sqlive_ring_in{device="sqlive0",ring="0"} 5
+sqlive_ring_in{device="sqlive0",ring="1"} 7
+# HELP sqlive_answers_by_status Answers over HTTP by their status.
 # TYPE sqlive_answers_by_status counter
-sqlive_answers_by_status{status="200"} 2
-sqlive_answers_by_status{status="other"} 1
+sqlive_answers_by_status{device="sqlive0",status="200"} 2
+sqlive_answers_by_status{device="sqlive0",status="other"} 1
+# HELP sqlive_connections Connections that have a place, half-open ones too.
 # TYPE sqlive_connections gauge
-sqlive_connections 2
+sqlive_connections{device="sqlive0"} 2
+# HELP sqlive_opened_total Connections that took a place.
 # TYPE sqlive_opened_total counter
-sqlive_opened_total 5
+sqlive_opened_total{device="sqlive0"} 5
 """)
+        self.assertIn('{device="a\\\\\\"b"}', status.exposition('a\\"b', {"open": 3}))
 
     def test_what_both_count(self):
         """Names that differ by `_total` alone are one to OpenMetrics: what the launcher saw has a name of its own."""
-        names = re.findall(r"(?m)^(sqlive_\w+) ", status.exposition({"opened": 7, "open": 3, "opened_total": 5}))
-        self.assertEqual(names, ["sqlive_seen_opened", "sqlive_open", "sqlive_opened_total"])
+        told = status.exposition("sqlive0", {"opened": 7, "open": 3, "opened_total": 5})
+        self.assertEqual(re.findall(r"(?m)^(sqlive_\w+){", told), ["sqlive_seen_opened", "sqlive_open", "sqlive_opened_total"])
+        self.assertEqual(told.count("whose handshake was seen to be over"), 1)
+
+    def test_each_fact_has_a_meaning(self):
+        """Each count of the program, and each fact of the launcher."""
+        counts = re.findall(r"(?m)^    pub (\w+): u64,$", (TOP / "crates" / "live_server" / "src" / "counts.rt").read_text())
+        self.assertEqual(list(meanings.PROGRAMS), [*orders.GAUGES, *(f"{name}_total" for name in counts)])
+        self.assertLessEqual({"seconds", "unseen", *seen.device_facts("lo"), *seen.Connections(ipaddress.ip_address(SERVER), ()).facts()}, set(meanings.LAUNCHERS))
 
     def test_who_reads_the_first_line_alone(self):
         """As `status | head -1` does."""
