@@ -1081,7 +1081,7 @@ class Pages(unittest.TestCase):
         (self.top / ".hidden").write_bytes(b"no")
         pack, count, hidden = pages.pack_of(self.top)
         found = http_model.pages_in(pack)
-        self.assertEqual((sorted(found), count, len(hidden)), ([b"/a.css", b"/sub/", b"/sub/index.html"], 3, 1))
+        self.assertEqual((sorted(found), count, len(hidden)), ([b"/a.css", b"/sub/", b"/sub/index.html"], 2, 1))
         self.assertEqual((found[b"/sub/"].body, found[b"/a.css"].kind), (b"<p>here", b"text/css; charset=utf-8"))
 
     def test_refused_folders(self):
