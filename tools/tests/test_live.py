@@ -650,7 +650,7 @@ class Queues(unittest.TestCase):
             self.assertEqual(self.got(), (None, some[0]))
             self.program.terminate()
             self.ring[1].close()
-            self.assertEqual((self.program.wait(30), self.program.stderr.read()), (1, b"queues: the capture ends here: File too large\n"))
+            self.assertEqual((self.program.wait(30), self.program.stderr.read()), (1, b"sqlive: the capture ends here: File too large\n"))
             self.assertEqual([datagram for _, datagram in captured(Path(capture.name).read_bytes())], some[:2])
 
     def test_the_time_alone(self):
@@ -740,7 +740,7 @@ class Queues(unittest.TestCase):
         self.ring[1].write(b"\xff" * 16)
         self.ring[1].flush()
         self.assertEqual(self.program.wait(30), 0)
-        self.assertEqual(self.program.stderr.read(), b"what ring 0 writes is no frame\n")
+        self.assertEqual(self.program.stderr.read(), b"sqlive: what ring 0 writes is no frame\n")
 
     def test_its_end(self):
         """SIGTERM ends the ring's input; where its output ends too, so does the program."""
