@@ -37,9 +37,13 @@ def is_cut(path):
     with open(path, "rb") as reads:
         reads.seek(max(0, os.fstat(reads.fileno()).st_size - END))
         *lines, rest = reads.read().split(b"\n")
-    if lines and not LINE.fullmatch(lines[-1]) or rest and not CUT.fullmatch(rest):
+    if (lines and not LINE.fullmatch(lines[-1])) or (rest and not CUT.fullmatch(rest)):
         raise NoLog("it ends with no line of a log: name another file, or move it away")
     return bool(rest)
+
+
+def so_many(count):
+    return f"{count} line{'s' * (count > 1)}"
 
 
 class Log:
@@ -109,8 +113,11 @@ class Log:
             self.fails, self.lacks = True, self.lacks + 1
             return
         if self.fails:
-            tell(f"the log goes on; it lacks {self.lacks} lines")
+            tell(f"the log goes on; it lacks {so_many(self.lacks)}")
         self.fails = False
+
+    def facts(self):
+        return {} if self.path is None else {"unlogged": self.lacks}
 
     def tell(self, ends, since, how):
         if self.path is None:

@@ -17,6 +17,7 @@ LAUNCHERS = {
     "answers_by_status": "Answers over HTTP by their status.",
     "unseen": "Datagrams that the launcher's counts lack.",
     "uncaptured": "Datagrams that the capture lacks.",
+    "unlogged": "Lines that the log lacks.",
     "cpu_seconds": "Processor time of the program.",
     "mover_cpu_seconds": "Processor time of what moves datagrams between the device and the rings.",
     "most_memory_kb": "The most memory that the program had, in KiB.",

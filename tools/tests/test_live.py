@@ -890,6 +890,18 @@ class OnADevice(unittest.TestCase):
             host.bind(("10.9.0.1", port))
             host.sendto(text, ("10.9.0.2", orders.SYSTAT))
 
+    def test_a_log_that_lacks_lines(self):
+        """It is told, by `status` too, and by the launcher's own."""
+        with tempfile.NamedTemporaryFile() as log:
+            launcher = self.start("--log", log.name, preexec_fn=lambda: resource.setrlimit(resource.RLIMIT_FSIZE, (10, 10)))
+            with self.echo():
+                pass
+            self.echo()
+            time.sleep(0.5)
+            self.assertEqual(status.facts_of("test0")["unlogged"], "1")
+            launcher.terminate()
+            self.assertEqual(self.ended(launcher), (1, ["sqlive: the log can't be written: File too large", "sqlive: the log lacks 2 lines"]))
+
     def test_a_drain_of_somebody_else(self):
         """It is told once; counts are nobody's secret, and who has no right is passed over. The launcher's own isn't told."""
         launcher = self.start("--grace", "1")
