@@ -28,7 +28,7 @@ LAUNCHERS = {
 PROGRAMS = {
     "connections": "Connections that have a place, half-open ones too.",
     "waiting": "The connections that were opened last, of which some may be half open and others over.",
-    "held": "Bytes of text that all connections held at the last tick.",
+    "held": "Bytes of text that all connections held at the last tick, with those that came since.",
     "draining": "1 once the server drains.",
     "passed_over_total": "Datagrams that are nothing that is answered, or have a wrong sum; on one thread the launcher's wake-ups too.",
     "pinged_total": "Echo requests that were answered.",
