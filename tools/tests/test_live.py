@@ -890,6 +890,14 @@ class OnADevice(unittest.TestCase):
             host.bind(("10.9.0.1", port))
             host.sendto(text, ("10.9.0.2", orders.SYSTAT))
 
+    def test_a_closed_end(self):
+        """What stands for standard error then is no file of the launcher's."""
+        with tempfile.NamedTemporaryFile() as log:
+            launcher = self.start("--log", log.name, preexec_fn=lambda: os.close(2))
+            self.assertEqual(os.readlink(f"/proc/{launcher.pid}/fd/2"), os.devnull)
+            launcher.terminate()
+            self.assertEqual(self.ended(launcher), (0, []))
+
     def test_a_log_that_lacks_lines(self):
         """It is told, by `status` too, and by the launcher's own."""
         with tempfile.NamedTemporaryFile() as log:
@@ -974,6 +982,12 @@ class Launcher(unittest.TestCase):
         self.assertIn("from 1 to 63", self.refused("--rings", "64"))
         for words in (("--rings", "0"), ("--rings", "2", "--mode", "none"), ("--places", "-1"), ("--server", "10.9.0.1"), ("--server", "10.8.0.2"), ("--mtu", "500")):
             self.refused(*words)
+
+    def test_help(self):
+        self.assertIn("usage: sqlive", subprocess.run([TOOLS / "sqlive", "--help"], capture_output=True, text=True, check=True).stdout)
+        with open("/dev/full", "w") as full:
+            done = subprocess.run([TOOLS / "sqlive", "--help"], stdout=full, stderr=subprocess.PIPE, text=True)
+        self.assertEqual((done.returncode, done.stderr), (1, "sqlive: standard output: No space left on device\n"))
 
     def test_words_of_another_mode(self):
         for words, said in (("--follow", "--follow goes with status"), ("--prometheus", "--prometheus goes with status"), ("--single-segments", "--single-segments goes with --rings"),
