@@ -1016,7 +1016,8 @@ class Launcher(unittest.TestCase):
     def test_a_capture_that_is_there_is_kept(self):
         with tempfile.NamedTemporaryFile() as capture:
             Path(capture.name).write_text("of another launcher")
-            self.assertIn(f"--capture {capture.name} is there, and isn't empty", self.refused("--capture", capture.name))
+            self.assertIn(f"--capture {capture.name} is there, and isn't empty", self.refused("--capture", capture.name, "--log", f"{capture.name}.log"))
+            self.assertFalse(os.path.exists(f"{capture.name}.log"))
             self.assertEqual(Path(capture.name).read_text(), "of another launcher")
 
     def test_one_file_for_both(self):
