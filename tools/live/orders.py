@@ -4,8 +4,14 @@ import contextlib
 import select
 import socket
 import time
+from pathlib import Path
 
-SYSTAT = 11
+import seen
+from telling import tell
+
+SYSTAT, DRAIN = 11, b"drain"
+# The first port whose orders don't count.
+FREE_PORT = 1024
 # The ports that take a right, and that `bindresvport` gives away.
 PORTS = range(1023, 511, -1)
 # A server tells its counts once from one tick to the next, and how long it is asked beyond that, and after how long once more, in seconds.
@@ -38,9 +44,35 @@ def give(orders, server, order):
         pass  # a full queue: it is told again
 
 
+def unprivileged():
+    """From which port on a socket takes no right, where that is one of those whose orders count; else None."""
+    with contextlib.suppress(OSError, ValueError):
+        first = int(Path("/proc/sys/net/ipv4/ip_unprivileged_port_start").read_text())
+        return first if first < FREE_PORT else None
+
+
+def drains(host, server):
+    """Takes each order of the host to drain, as `seen.tap` wants it; from which port, isn't looked at."""
+    return seen.with_numbers((1, 0, 0x45), (1, 9, socket.IPPROTO_UDP), (4, 12, int(host)), (4, 16, int(server)), (2, 22, SYSTAT),
+                             (2, 24, 8 + len(DRAIN)), (4, 28, int.from_bytes(DRAIN[:4], "big")), (1, 32, DRAIN[4]))
+
+
+class OthersDrains:
+    """Tells of the first order to drain that counts and comes before the launcher's own."""
+    def __init__(self, device, host, server):
+        self.host, self.over = host, False
+        seen.each_of(seen.tap(device, drains(host, server)), self.see)
+
+    def see(self, datagram):
+        port = int.from_bytes(datagram[20:22], "big")
+        if not self.over and port < FREE_PORT:
+            self.over = True
+            tell(f"{self.host} port {port} told the server to drain, and this launcher didn't")
+
+
 def drain(orders, server):
     """Tells a server to drain."""
-    give(orders, server, b"drain")
+    give(orders, server, DRAIN)
 
 
 def counts(host, server, rings):

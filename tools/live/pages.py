@@ -82,7 +82,7 @@ def files_of(top):
 
 
 def pack_of(folder):
-    """All pages of a folder in one piece, how many there are, and which files are left out. An index page also stands for its folder."""
+    """All pages of a folder in one piece, of how many files, and which files are left out. An index page also stands for its folder."""
     top = Path(folder).resolve()
     if not top.is_dir():
         raise Refused(f"{folder} is no folder")
@@ -97,4 +97,4 @@ def pack_of(folder):
             raise Refused(f"{folder} has over {MOST_PAGES} pages or {MOST_PACK >> 20} MiB")
     if not pages:
         raise Refused(f"{folder} has no file")
-    return b"".join(pages), len(pages), hidden
+    return b"".join(pages), len(files), hidden

@@ -60,6 +60,12 @@ def as_nobody(program, words, descriptors=(), **streams):
         os.close(file)
 
 
+def how_ended(status):
+    """How a process ended, by what Popen tells of it."""
+    names = {number.value: number.name for number in signal.Signals}
+    return f"was ended by {names.get(-status, f'signal {-status}')}" if status < 0 else f"ended with status {status}"
+
+
 def most_memory_kb(pid):
     """The most memory that a process had."""
     return int(Path(f"/proc/{pid}/status").read_text().split("VmHWM:")[1].split()[0])

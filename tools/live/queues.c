@@ -139,8 +139,8 @@ static void append(uint64_t time, const unsigned char *datagram, uint32_t length
         captured += HEAD + length;
         return;
     }
-    fprintf(stderr, "queues: the capture ends here: %s\n", strerror(errno));
-    if (ftruncate(capture, captured)) perror("queues: the capture's last record is cut");
+    fprintf(stderr, "sqlive: the capture ends here: %s\n", strerror(errno));
+    if (ftruncate(capture, captured)) perror("sqlive: the capture's last record is cut");
 }
 
 /* Keeps a datagram that is brought or taken now, where it is to be kept, and tells the time. */
@@ -266,7 +266,7 @@ static void *take(void *of) {
         used = take_letters(q, frames, used);
         ssize_t length = take_datagrams(q, frames, used);
         if (length < 0) {
-            fprintf(stderr, "queue %ld of the device gives nothing any more: %s\n", q->number, strerror(errno));
+            fprintf(stderr, "sqlive: queue %ld of the device gives nothing any more: %s\n", q->number, strerror(errno));
             break;
         }
         if (length && !write_whole(q->in, frames, length)) break;
@@ -363,7 +363,7 @@ static void *give(void *of) {
         have += n < 0 ? 0 : n;
         ssize_t given = give_datagrams(q, frames, have);
         if (given < 0) {
-            fprintf(stderr, "what ring %ld writes is no frame\n", q->number);
+            fprintf(stderr, "sqlive: what ring %ld writes is no frame\n", q->number);
             break;
         }
         have -= given;
@@ -391,7 +391,7 @@ int main(int words, char **word) {
     struct box *boxes = calloc(queues, sizeof *boxes);
     struct counts *counts = mmap(0, 2 * queues * sizeof *counts, PROT_READ | PROT_WRITE, MAP_SHARED, atoi(word[2]), 0);
     if (!of || !boxes || counts == MAP_FAILED) {
-        perror("queues");
+        perror("sqlive: queues.c");
         return 1;
     }
     begun = micros(CLOCK_REALTIME) - micros(CLOCK_MONOTONIC);
@@ -415,7 +415,7 @@ int main(int words, char **word) {
     for (long k = 0; k < queues; k++)
         failed |= pthread_create(&of[k].reads, 0, give, of + k) || pthread_create(&other, 0, take, of + k);
     if (failed) {
-        fputs("queues: no threads\n", stderr);
+        fputs("sqlive: queues.c: no threads\n", stderr);
         return 1;
     }
     for (long k = 0; k < queues; k++) pthread_join(of[k].reads, 0);

@@ -27,6 +27,7 @@ def reset_all(device, head, taps, connections, most):
     the device each datagram stands behind this head."""
     end = time.monotonic() + LONGEST
     taps.catch_up(end)
+    connections.left = True
     while (still := connections.still_open(most)) and time.monotonic() < end:
         for ends, found in still:
             for segment in reset_and_keep_alive(connections.server, ends, found):

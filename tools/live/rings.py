@@ -13,7 +13,7 @@ from pathlib import Path
 
 sys.path.append(str(Path(__file__).resolve().parents[1] / "parts"))
 from compiled import compiled
-from programs import NOBODY, as_nobody, cpu_seconds, most_memory_kb, pages_words, rings_words
+from programs import NOBODY, as_nobody, cpu_seconds, how_ended, most_memory_kb, pages_words, rings_words
 
 F_SETPIPE_SZ, PIPE = 1031, 1 << 20
 # What a queue counts, by direction: datagrams, their bytes, and those that the device refused; each direction in 64 bytes.
@@ -82,6 +82,7 @@ class Rings:
 
     def end(self, seconds=10):
         """Ends the input of each ring, so that the server ends; kills it where it doesn't. The server's status, and whether its capture is whole."""
+        self.moved = self.mover.poll()
         self.mover.terminate()
         try:
             self.server.wait(seconds)
@@ -94,3 +95,9 @@ class Rings:
             self.mover.kill()
         self.mover.wait()
         return self.server.returncode, self.mover.returncode <= 0
+
+    def who_ended(self):
+        """The mover, where a signal ended it: then the server has ended behind it."""
+        if self.moved is not None and self.moved < 0:
+            return f"queues.c, which moves datagrams, {how_ended(self.moved)}"
+        return f"the program {how_ended(self.server.returncode)}"

@@ -5,14 +5,15 @@ import select
 import socket
 import stat
 import struct
-import sys
 import threading
 import time
 from collections import OrderedDict
 from dataclasses import dataclass
 from pathlib import Path
 
+from ends_log import Log
 from tcp_segments import ACK, FIN, RST, SYN
+from telling import tell
 
 ETH_P_ALL, SOL_PACKET, PACKET_STATISTICS, SO_ATTACH_FILTER, SO_RCVBUFFORCE = 3, 263, 6, 26, 33
 # So much memory holds what isn't read yet.
@@ -38,6 +39,13 @@ def comes_to(server):
     """Takes the head of each TCP datagram over IPv4 that comes to the server."""
     return ((0x30, 0, 0, 0), (0x54, 0, 0, 0xF0), (0x15, 0, 5, 0x40), (0x30, 0, 0, 9), (0x15, 0, 3, 6), (0x20, 0, 0, 16), (0x15, 0, 1, int(server)),
             (0x06, 0, 0, 80), (0x06, 0, 0, 0))
+
+
+def with_numbers(*numbers):
+    """Takes the head of each datagram that has these numbers, as (how many bytes, where, which): BPF as above."""
+    load = {1: 0x30, 2: 0x28, 4: 0x20}
+    steps = [step for left, (size, at, number) in zip(range(len(numbers), 0, -1), numbers) for step in ((load[size], 0, 0, at), (0x15, 0, 2 * left - 1, number))]
+    return (*steps, (0x06, 0, 0, 80), (0x06, 0, 0, 0))
 
 
 def attach(taps, only, level=socket.SOL_SOCKET, option=SO_ATTACH_FILTER):
@@ -132,7 +140,7 @@ class Capture:
             self.end += written
         except OSError as error:
             self.cut(written)
-            print(f"sqlive: the capture ends here: {error.strerror}", file=sys.stderr, flush=True)
+            tell(f"the capture ends here: {error.strerror}")
         self.waiting = []
 
     def cut(self, written):
@@ -164,23 +172,6 @@ class Connection:
         return bool(flags & ACK) and (ack - self.answer) % 2**32 <= MOST_UNDER_WAY
 
 
-class Log:
-    """A line for each connection that was open, when it ends: the time, the client, the port, for how many seconds, and how it ended."""
-    def __init__(self, file):
-        self.file = file
-
-    def tell(self, ends, since, how):
-        client, theirs, ours = socket.inet_ntoa(ends[:4]), *struct.unpack(">HH", ends[4:])
-        at = time.time()
-        line = f"{time.strftime('%Y-%m-%dT%H:%M:%S', time.gmtime(at))}.{int(at * 1000) % 1000:03}Z {client}:{theirs} {ours} {time.monotonic() - since:.3f} {how}\n"
-        try:
-            if self.file is not None:
-                os.write(self.file, line.encode())
-        except OSError as error:
-            self.file = None
-            print(f"sqlive: the log ends here: {error.strerror}", file=sys.stderr, flush=True)
-
-
 class Connections:
     """How many connections there were at these ports of a server, by the segments that open or end one.
 
@@ -190,8 +181,10 @@ class Connections:
     MOST = 1 << 17
 
     def __init__(self, server, ports, log=None):
-        self.server, self.ports, self.known, self.log = server.packed, frozenset(ports), OrderedDict(), log or Log(None)
+        self.server, self.ports, self.known, self.log = server.packed, frozenset(ports), OrderedDict(), log or Log()
         self.asked = self.opened = self.open = self.refused = self.resets_in = self.resets_out = 0
+        # whether the server has ended: then clients' resets only answer the launcher's
+        self.left = False
 
     def over(self, ends, how):
         found = self.known.pop(ends, None)
@@ -252,7 +245,7 @@ class Connections:
             self.resets_out += 1
         else:
             self.refused += 1
-        self.over(ends, "reset-by-client" if inward else "reset-by-server")
+        self.over(ends, "reset-by-server" if not inward else "left-open" if self.left else "reset-by-client")
 
     def still_open(self, most):
         """Both ends and what was seen of each open connection whose client acknowledged something; of more than so many the youngest."""

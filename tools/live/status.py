@@ -3,12 +3,13 @@ import contextlib
 import os
 import re
 import socket
-import sys
 import threading
 import time
 from pathlib import Path
 
 import orders
+import telling
+from meanings import meaning_of
 
 
 def places(device):
@@ -39,7 +40,7 @@ def listening(device):
         except OSError as error:
             listens.close()
             why = error
-    print(f"sqlive: it serves without status: {why}", file=sys.stderr)
+    telling.tell(f"it serves without status: {why}")
     return None
 
 
@@ -84,19 +85,19 @@ GAUGES = ("open", "most_memory_kb", "rings", *orders.GAUGES)
 LABELLED = re.compile("(?P<ring>ring)_(?P<which>[0-9]+)_(?P<way>in|out)|(?P<answers>answers)_(?P<status>[0-9]+|other)")
 
 
-def exposition(facts):
+def exposition(device, facts):
     """The facts in the text format of Prometheus: all lines of a name stand together. What the launcher saw is told from the server's own count of it."""
-    samples = {}
+    samples, on = {}, device.replace("\\", r"\\").replace('"', r"\"")
     for fact, value in facts.items():
         found = LABELLED.fullmatch(fact)
         if not found:
-            name, labels = f"seen_{fact}" if f"{fact}_total" in facts else fact, ""
+            name, label = f"seen_{fact}" if f"{fact}_total" in facts else fact, ""
         elif found["ring"]:
-            name, labels = f"ring_{found['way']}", f'{{ring="{found["which"]}"}}'
+            name, label = f"ring_{found['way']}", f',ring="{found["which"]}"'
         else:
-            name, labels = "answers_by_status", f'{{status="{found["status"]}"}}'
-        samples.setdefault(f"sqlive_{name}", []).append(f"{labels} {value}")
-    return "".join(f"# TYPE {name} {'gauge' if name.removeprefix('sqlive_') in GAUGES else 'counter'}\n" + "".join(f"{name}{line}\n" for line in lines)
+            name, label = "answers_by_status", f',status="{found["status"]}"'
+        samples.setdefault(name, []).append(f'sqlive_{name}{{device="{on}"{label}}} {value}\n')
+    return "".join(f"# HELP sqlive_{name} {meaning_of(name)}\n# TYPE sqlive_{name} {'gauge' if name in GAUGES else 'counter'}\n{''.join(lines)}"
                    for name, lines in samples.items())
 
 
@@ -107,24 +108,24 @@ def tell(device, follow, prometheus=False):
     try:
         return shown(device, facts, follow, prometheus)
     except BrokenPipeError:
-        # who reads has enough, as `head` does; nothing is left to be written at the end
-        os.dup2(os.open(os.devnull, os.O_WRONLY), sys.stdout.fileno())
-        return None
+        return None  # who reads has enough, as `head` does
+    except OSError as error:
+        return f"sqlive: standard output: {error.strerror}"
 
 
 def shown(device, facts, follow, prometheus):
     """Prints these facts, and follows them. Why they aren't all, or None."""
     if prometheus:
-        print(end=exposition(facts), flush=True)
+        telling.write(exposition(device, facts))
     elif not follow:
-        print(end="".join(f"{fact} {value}\n" for fact, value in facts.items()), flush=True)
+        telling.write("".join(f"{fact} {value}\n" for fact, value in facts.items()))
     why = why_not_all(device, facts)
     with contextlib.suppress(KeyboardInterrupt):
         while follow and not prometheus and facts:
             time.sleep(1)
             before, facts = facts, facts_of(device)
             if facts:
-                print(line_of_second(before, facts), flush=True)
+                telling.write(f"{line_of_second(before, facts)}\n")
     return why
 
 

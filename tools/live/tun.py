@@ -12,6 +12,8 @@ TUN_WITHOUT_HEADER, MULTI_QUEUE, LONG_SEGMENTS, NEW_ALONE = 0x0001 | 0x1000, 0x0
 # What a device with long segments takes: segments over IPv4 that aren't cut, without their checksums.
 TUNSETOFFLOAD, NOT_CUT = 0x400454D0, 0x1 | 0x2
 UP_AND_RUNNING = 0x1 | 0x40
+# The kind that TUN devices are of.
+SIOCGIFHWADDR, WITHOUT_LINK = 0x8927, 0xFFFE
 # The bytes of a virtio_net_hdr, which stands before each datagram of such a device: zeros say nothing.
 HEAD = 10
 # So many datagrams wait for the program in each queue: more are lost, and a lost one costs a second.
@@ -75,9 +77,22 @@ def way_to(address):
         return None
 
 
+def kind_of(name):
+    """The kind of a device by its number; None where there is none."""
+    with socket.socket(socket.AF_INET, socket.SOCK_DGRAM) as any_socket:
+        try:
+            return struct.unpack_from("H", fcntl.ioctl(any_socket, SIOCGIFHWADDR, struct.pack("16s24x", name.encode())), 16)[0]
+        except OSError:
+            return None
+
+
 def why_none(error, name):
     """What is in the way of a TUN device."""
-    in_use = f"there is a device {name} already, as another tools/sqlive has it (--device names another one)"
+    if error.errno in (errno.EBUSY, errno.EINVAL):
+        if (kind := kind_of(name)) is None:
+            return f"the kernel takes no device of the name {name}"
+        another = "(--device names another one)"
+        return f"there is a device {name} already, as another tools/sqlive has it {another}" if kind == WITHOUT_LINK else f"{name} is a device of another kind {another}"
     rights = "it takes root, or the rights that tools/live/sqlive.service names"
-    return {errno.EBUSY: in_use, errno.EINVAL: in_use, errno.EPERM: rights, errno.EACCES: rights,
+    return {errno.EPERM: rights, errno.EACCES: rights,
             errno.ENOENT: "there is no /dev/net/tun (modprobe tun)", errno.ENODEV: "there is no /dev/net/tun (modprobe tun)"}.get(error.errno, error.strerror)

@@ -6,16 +6,27 @@ import subprocess
 import tempfile
 from pathlib import Path
 
+# How a program for Linux begins.
+ELF = b"\x7fELF"
+
 
 def cache():
     return Path(os.environ.get("XDG_CACHE_HOME") or Path.home() / ".cache") / "squeues"
+
+
+def is_program(path):
+    """Whether this user keeps a program there. What was cut, or can't be run, is none."""
+    if not path.is_file() or path.stat().st_uid != os.geteuid() or not os.access(path, os.X_OK):
+        return False
+    with open(path, "rb") as made:
+        return made.read(len(ELF)) == ELF
 
 
 def compiled(source, *words):
     """The file that cc makes of a source with these words. Raises OSError without it and cc or a place to keep it, RuntimeError without a home."""
     made = hashlib.sha256(" ".join(words).encode() + source.read_bytes()).hexdigest()[:16]
     kept = cache() / f"{source.stem}-{made}"
-    if kept.exists() and kept.stat().st_uid == os.geteuid():
+    if is_program(kept):
         return kept
     if not shutil.which("cc"):
         raise OSError("it takes a C compiler (Debian: gcc libc6-dev)")

@@ -1,5 +1,6 @@
 """Tests of the live server's tools: datagrams written and read again, what is counted, and a few cases of live_test where they can run."""
 import contextlib
+import ctypes
 import io
 import ipaddress
 import json
@@ -25,8 +26,10 @@ from unittest import mock
 from common import TOOLS, TOP, need
 
 sys.path.insert(0, str(TOOLS / "live"))
+import ends_log
 import floods
 import http_model
+import meanings
 import orders
 import pages
 import resets
@@ -34,6 +37,7 @@ import rings
 import seen
 import status
 import tcp_segments
+import wire
 from compiled import compiled
 from programs import built
 from tcp_segments import ACK, FIN, PSH, RST, SYN
@@ -151,8 +155,8 @@ class Counted(unittest.TestCase):
 
     def test_the_log(self):
         """A line for each connection that was open, when it ends."""
-        with tempfile.TemporaryFile() as log:
-            self.connections = seen.Connections(ipaddress.ip_address(SERVER), (7, 9), seen.Log(log.fileno()))
+        with tempfile.NamedTemporaryFile() as log:
+            self.connections = seen.Connections(ipaddress.ip_address(SERVER), (7, 9), ends_log.Log(log.name))
             for client in range(1, 6):
                 self.comes(SYN, client=client)
                 self.goes(SYN | ACK, client=client)
@@ -179,6 +183,78 @@ class Counted(unittest.TestCase):
             self.comes(ACK, client=client)
         self.assert_counted(asked=5, opened=5, open=3)
         self.assertEqual(len(self.connections.known), 3)
+
+
+class Logs(unittest.TestCase):
+    """The file of a log, whose lines are those of connections that end."""
+    ENDS = CLIENT + struct.pack(">HH", 40000, 7)
+    LINE = r"\d{4}-\d\d-\d\dT\d\d:\d\d:\d\d\.\d{3}Z 10\.9\.0\.1:40000 7 \d+\.\d{3} closed\n"
+
+    def setUp(self):
+        folder = tempfile.TemporaryDirectory()
+        self.addCleanup(folder.cleanup)
+        self.path = Path(folder.name, "log")
+
+    def tell(self, log, count=1):
+        with contextlib.redirect_stderr(io.StringIO()) as said:
+            for _ in range(count):
+                log.tell(self.ENDS, time.monotonic(), "closed")
+        return said.getvalue()
+
+    def assert_lines(self, count, begins="", path=None):
+        self.assertRegex((path or self.path).read_text(), f"^{begins}({self.LINE}){{{count}}}$")
+
+    def test_whose_end_is_no_line(self):
+        """Such a file is somebody else's, and stays as it is."""
+        self.tell(ends_log.Log(self.path), 2)
+        line = self.path.read_bytes().splitlines(True)[0]
+        for other in (struct.pack("<IHHIIII", 0xA1B2C3D4, 2, 4, 0, 0, 65535, 101), b"text\n", b"text", b"\n", line + b"text\n", line + b"text", line + b"\n", b"7" * 200, line + bytes(9)):
+            self.path.write_bytes(other)
+            self.assertRaisesRegex(ends_log.NoLog, "no line of a log", ends_log.Log, self.path)
+            self.assertEqual(self.path.read_bytes(), other)
+
+    def test_a_line_that_was_cut(self):
+        """It stays, and the next one is a line of its own; nothing is written before there is one."""
+        for before in ("", "2026-12-01T19:45:31.011Z 10.9.0.1:56548 7 0.000 closed\n"):
+            for cut in ("2", "2026-12-01T19:45:31.0", "2026-12-01T19:45:31.011Z 10.9.0.1:56548 7 0.000 closed"):
+                self.path.write_text(before + cut)
+                log = ends_log.Log(self.path)
+                self.assertEqual(self.path.read_text(), before + cut)
+                self.assertEqual(self.tell(log, 2), "")
+                self.assert_lines(2, re.escape(f"{before}{cut}\n"))
+
+    def test_a_full_disk(self):
+        """No line is cut; the log goes on when there is space again, and both are told once."""
+        log, limits = ends_log.Log(self.path), resource.getrlimit(resource.RLIMIT_FSIZE)
+        self.tell(log, 2)
+        resource.setrlimit(resource.RLIMIT_FSIZE, (self.path.stat().st_size + 20, limits[1]))
+        try:
+            self.assertEqual(self.tell(log, 3), "sqlive: the log can't be written: File too large\n")
+        finally:
+            resource.setrlimit(resource.RLIMIT_FSIZE, limits)
+        self.assert_lines(2)
+        self.assertEqual(self.tell(log, 2), "sqlive: the log goes on; it lacks 3 lines\n")
+        self.assert_lines(4)
+        self.assertEqual(log.lacks, 3)
+
+    def test_one_that_is_moved(self):
+        """The next line begins a new file at its name."""
+        log, moved = ends_log.Log(self.path), self.path.with_name("log.1")
+        self.tell(log, 2)
+        self.path.rename(moved)
+        self.assertEqual(self.tell(log, 3), "")
+        self.assert_lines(3)
+        self.assert_lines(2, path=moved)
+        moved.replace(self.path)
+        self.tell(log)
+        self.assert_lines(3)
+
+    def test_another_file_in_its_place(self):
+        log = ends_log.Log(self.path)
+        self.path.unlink()
+        self.path.write_text("somebody's\n")
+        self.assertRegex(self.tell(log, 2), "^sqlive: the log can't be written: .* no line of a log.*\n$")
+        self.assertEqual((self.path.read_text(), log.lacks), ("somebody's\n", 2))
 
 
 class Resets(unittest.TestCase):
@@ -358,33 +434,41 @@ class Status(unittest.TestCase):
         self.assertRegex(said.getvalue(), "^sqlive: it serves without status: .*\n$")
 
     def test_the_format_of_prometheus(self):
-        facts = {"seconds": "1.5", "open": 3, "ring_0_in": 5, "ring_0_out": 6, "ring_1_in": 7, "ring_1_out": 8, "answers": 3, "answers_200": 2, "answers_other": 1,
-                 "connections": 2, "opened_total": 5}
-        self.assertEqual(status.exposition(facts), """# TYPE sqlive_seconds counter
-sqlive_seconds 1.5
+        facts = {"seconds": "1.5", "open": 3, "ring_0_in": 5, "ring_1_in": 7, "answers_200": 2, "answers_other": 1, "connections": 2, "opened_total": 5}
+        self.assertEqual(status.exposition("sqlive0", facts), """# HELP sqlive_seconds For how many seconds the server has run.
+# TYPE sqlive_seconds counter
+sqlive_seconds{device="sqlive0"} 1.5
+# HELP sqlive_open Connections that were seen to open, and not to end.
 # TYPE sqlive_open gauge
-sqlive_open 3
+sqlive_open{device="sqlive0"} 3
+# HELP sqlive_ring_in Datagrams that a ring was brought.
 # TYPE sqlive_ring_in counter
-sqlive_ring_in{ring="0"} 5
-sqlive_ring_in{ring="1"} 7
-# TYPE sqlive_ring_out counter
-sqlive_ring_out{ring="0"} 6
-sqlive_ring_out{ring="1"} 8
-# TYPE sqlive_answers counter
-sqlive_answers 3
+sqlive_ring_in{device="sqlive0",ring="0"} 5
+sqlive_ring_in{device="sqlive0",ring="1"} 7
+# HELP sqlive_answers_by_status Answers over HTTP by their status.
 # TYPE sqlive_answers_by_status counter
-sqlive_answers_by_status{status="200"} 2
-sqlive_answers_by_status{status="other"} 1
+sqlive_answers_by_status{device="sqlive0",status="200"} 2
+sqlive_answers_by_status{device="sqlive0",status="other"} 1
+# HELP sqlive_connections Connections that have a place, half-open ones too.
 # TYPE sqlive_connections gauge
-sqlive_connections 2
+sqlive_connections{device="sqlive0"} 2
+# HELP sqlive_opened_total Connections that took a place.
 # TYPE sqlive_opened_total counter
-sqlive_opened_total 5
+sqlive_opened_total{device="sqlive0"} 5
 """)
+        self.assertIn('{device="a\\\\\\"b"}', status.exposition('a\\"b', {"open": 3}))
 
     def test_what_both_count(self):
         """Names that differ by `_total` alone are one to OpenMetrics: what the launcher saw has a name of its own."""
-        names = re.findall(r"(?m)^(sqlive_\w+) ", status.exposition({"opened": 7, "open": 3, "opened_total": 5}))
-        self.assertEqual(names, ["sqlive_seen_opened", "sqlive_open", "sqlive_opened_total"])
+        told = status.exposition("sqlive0", {"opened": 7, "open": 3, "opened_total": 5})
+        self.assertEqual(re.findall(r"(?m)^(sqlive_\w+){", told), ["sqlive_seen_opened", "sqlive_open", "sqlive_opened_total"])
+        self.assertEqual(told.count("whose handshake was seen to be over"), 1)
+
+    def test_each_fact_has_a_meaning(self):
+        """Each count of the program, and each fact of the launcher."""
+        counts = re.findall(r"(?m)^    pub (\w+): u64,$", (TOP / "crates" / "live_server" / "src" / "counts.rt").read_text())
+        self.assertEqual(list(meanings.PROGRAMS), [*orders.GAUGES, *(f"{name}_total" for name in counts)])
+        self.assertLessEqual({"seconds", "unseen", *seen.device_facts("lo"), *seen.Connections(ipaddress.ip_address(SERVER), ()).facts()}, set(meanings.LAUNCHERS))
 
     def test_who_reads_the_first_line_alone(self):
         """As `status | head -1` does."""
@@ -393,6 +477,13 @@ sqlive_opened_total 5
                 "reads, writes = os.pipe(); os.close(reads); os.dup2(writes, 1); sys.exit(status.tell('sqlive0', False))"
             done = subprocess.run([sys.executable, "-c", asked], capture_output=True, text=True)
         self.assertEqual((done.returncode, done.stderr), (0, ""))
+
+    def test_a_full_disk(self):
+        with open("/dev/full", "w") as full:
+            done = subprocess.run([TOOLS / "sqlive", "status", "--device", "nowhere"], stdout=full, stderr=subprocess.PIPE, text=True)
+            self.assertEqual((done.returncode, done.stderr), (1, "sqlive: no tools/sqlive runs on nowhere in this network namespace\n"))
+            with status.told("sqlive0", self.Knows()), contextlib.redirect_stdout(full):
+                self.assertEqual(status.tell("sqlive0", False), "sqlive: standard output: No space left on device")
 
     def test_why_that_is_not_all(self):
         self.assertRegex(status.why_not_all("sqlive0", {}), "no tools/sqlive runs on sqlive0")
@@ -460,6 +551,11 @@ class Compiled(unittest.TestCase):
                 source.write_text("int main(void) { return 4; }")
                 self.assertRaisesRegex(OSError, "takes a C compiler", compiled, source)
             self.assertEqual(subprocess.run([compiled(source)]).returncode, 4)
+            for broken, mode in ((b"x", 0o644), (b"x", 0o755), (b"", 0o755), (first.read_bytes(), 0o644)):
+                made = compiled(source)
+                made.write_bytes(broken)
+                made.chmod(mode)
+                self.assertEqual(subprocess.run([compiled(source)]).returncode, 4)
             source.write_text("no C")
             self.assertRaisesRegex(OSError, "can't compile", compiled, source)
             self.assertEqual(len(list(first.parent.iterdir())), 2)
@@ -554,7 +650,7 @@ class Queues(unittest.TestCase):
             self.assertEqual(self.got(), (None, some[0]))
             self.program.terminate()
             self.ring[1].close()
-            self.assertEqual((self.program.wait(30), self.program.stderr.read()), (1, b"queues: the capture ends here: File too large\n"))
+            self.assertEqual((self.program.wait(30), self.program.stderr.read()), (1, b"sqlive: the capture ends here: File too large\n"))
             self.assertEqual([datagram for _, datagram in captured(Path(capture.name).read_bytes())], some[:2])
 
     def test_the_time_alone(self):
@@ -644,7 +740,7 @@ class Queues(unittest.TestCase):
         self.ring[1].write(b"\xff" * 16)
         self.ring[1].flush()
         self.assertEqual(self.program.wait(30), 0)
-        self.assertEqual(self.program.stderr.read(), b"what ring 0 writes is no frame\n")
+        self.assertEqual(self.program.stderr.read(), b"sqlive: what ring 0 writes is no frame\n")
 
     def test_its_end(self):
         """SIGTERM ends the ring's input; where its output ends too, so does the program."""
@@ -704,14 +800,181 @@ class ForAllRings(unittest.TestCase):
         self.assertEqual([self.next_of(1), self.next_of(0)], [order, order])
 
 
+class OnADevice(unittest.TestCase):
+    """The launcher with the program, in a network namespace of each test's own."""
+    WORDS = TOOLS / "sqlive", "--program", SQLIVE, "--device", "test0", "--grace", "0"
+
+    def setUp(self):
+        need("ip")
+        if not os.access(SQLIVE, os.X_OK):
+            self.skipTest("no sqlive: run ./build sqlive or tools/try-build --fast sqlive, or name it by SQLIVE")
+        if os.geteuid() != 0 or not os.path.exists("/dev/net/tun"):
+            self.skipTest("a device takes root, and TUN")
+        before = os.open("/proc/thread-self/ns/net", os.O_RDONLY | os.O_CLOEXEC)
+        self.addCleanup(os.close, before)
+        wire.new_namespace()
+        self.addCleanup(ctypes.CDLL(None).setns, before, wire.CLONE_NEWNET)
+
+    def start(self, *words, **streams):
+        """The launcher, once it serves."""
+        launcher = subprocess.Popen([*self.WORDS, *words], **{"stdout": subprocess.PIPE, "stderr": subprocess.PIPE, "text": True, **streams})
+        self.addCleanup(self.finish, launcher)
+        if launcher.stdout:
+            self.assertIn("echo on 10.9.0.2", launcher.stdout.readline())
+        return launcher
+
+    @staticmethod
+    def finish(launcher):
+        launcher.kill()
+        launcher.communicate()
+
+    def ended(self, launcher):
+        """Its status, and what it says on standard error but for what is built without proof."""
+        said = launcher.communicate(timeout=60)[1]
+        return launcher.returncode, [line for line in said.splitlines() if "without any proof" not in line]
+
+    @staticmethod
+    def program(launcher, place=0):
+        """One of the processes that the launcher started: the program, or with rings behind it what moves its datagrams."""
+        return int(Path(f"/proc/{launcher.pid}/task/{launcher.pid}/children").read_text().split()[place])
+
+    def echo(self, text=b"text"):
+        """A connection that echoes."""
+        client = socket.create_connection(("10.9.0.2", 7), timeout=30)
+        self.addCleanup(client.close)
+        client.sendall(text)
+        self.assertEqual(client.recv(100), text)
+        return client
+
+    def refused(self, *words):
+        """What is said where it doesn't serve."""
+        done = subprocess.run([*self.WORDS, *words], capture_output=True, text=True, timeout=60)
+        self.assertEqual((done.returncode, done.stdout), (1, ""), words)
+        return done.stderr
+
+    def test_no_device(self):
+        """It names the cause: another kind of device, one that is in use, or a name that the kernel keeps for itself."""
+        self.start()
+        for name, why in (("lo", "lo is a device of another kind"), ("test0", "there is a device test0 already, as another tools/sqlive has it"),
+                          ("all", "the kernel takes no device of the name all"), ("default", "the kernel takes no device of the name default")):
+            for words in ((), ("--rings", "2")):
+                self.assertIn(f"no TUN device: {why}", self.refused("--device", name, *words))
+
+    def test_another_way_to_the_server(self):
+        subprocess.run(["ip", "route", "add", "10.9.0.2/32", "dev", "lo"], check=True)
+        self.assertIn("sqlive: this machine reaches 10.9.0.2 by lo, and not by test0", self.refused())
+
+    def test_who_ended(self):
+        """The program, what moves its datagrams, or the device."""
+        for words, place, said in (((), 0, "the program was ended by SIGKILL"), (("--rings", "2"), 0, "the program was ended by SIGKILL"),
+                                   (("--rings", "2"), 1, "queues.c, which moves datagrams, was ended by SIGKILL")):
+            launcher = self.start(*words)
+            os.kill(self.program(launcher, place), signal.SIGKILL)
+            self.assertEqual(self.ended(launcher), (1, [f"sqlive: {said}"]))
+        for words in ((), ("--rings", "2")):
+            launcher = self.start(*words)
+            subprocess.run(["ip", "link", "del", "test0"], check=True)
+            status, told = self.ended(launcher)
+            self.assertEqual((status, told[-1]), (1, "sqlive: the device test0 is gone"))
+
+    def test_a_program_that_is_none(self):
+        with tempfile.TemporaryDirectory() as folder:
+            (none := Path(folder, "none")).write_text("no program")
+            none.chmod(0o755)
+            done = subprocess.run([*self.WORDS, "--program", none], capture_output=True, text=True)
+        self.assertEqual((done.returncode, done.stderr), (1, f"sqlive: {none} can't be started: Exec format error\n"))
+
+    def order(self, text, port):
+        """An order from a port of the host."""
+        with socket.socket(socket.AF_INET, socket.SOCK_DGRAM) as host:
+            host.bind(("10.9.0.1", port))
+            host.sendto(text, ("10.9.0.2", orders.SYSTAT))
+
+    def test_a_closed_end(self):
+        """What stands for standard error then is no file of the launcher's."""
+        with tempfile.NamedTemporaryFile() as log:
+            launcher = self.start("--log", log.name, preexec_fn=lambda: os.close(2))
+            self.assertEqual(os.readlink(f"/proc/{launcher.pid}/fd/2"), os.devnull)
+            launcher.terminate()
+            self.assertEqual(self.ended(launcher), (0, []))
+
+    def test_a_log_that_lacks_lines(self):
+        """It is told, by `status` too, and by the launcher's own."""
+        with tempfile.NamedTemporaryFile() as log:
+            launcher = self.start("--log", log.name, preexec_fn=lambda: resource.setrlimit(resource.RLIMIT_FSIZE, (10, 10)))
+            with self.echo():
+                pass
+            self.echo()
+            time.sleep(0.5)
+            self.assertEqual(status.facts_of("test0")["unlogged"], "1")
+            launcher.terminate()
+            self.assertEqual(self.ended(launcher), (1, ["sqlive: the log can't be written: File too large", "sqlive: the log lacks 2 lines"]))
+
+    def test_a_drain_of_somebody_else(self):
+        """It is told once; counts are nobody's secret, and who has no right is passed over. The launcher's own isn't told."""
+        launcher = self.start("--grace", "1")
+        for text, port in ((b"counts", 900), (b"drain", 2000), (b"drains", 900), (b"drain", 900), (b"drain", 901)):
+            self.order(text, port)
+        time.sleep(0.3)
+        self.assertEqual(status.facts_of("test0")["draining"], "1")
+        launcher.terminate()
+        self.assertEqual(self.ended(launcher), (0, ["sqlive: 10.9.0.1 port 900 told the server to drain, and this launcher didn't"]))
+        launcher = self.start("--grace", "1")
+        self.echo()
+        launcher.terminate()
+        self.assertEqual(self.ended(launcher), (0, []))
+
+    def test_ports_that_take_no_right(self):
+        Path("/proc/sys/net/ipv4/ip_unprivileged_port_start").write_text("900")
+        launcher = self.start()
+        launcher.terminate()
+        self.assertEqual(self.ended(launcher), (0, ["sqlive: all users of this machine may give the server orders, as to drain: "
+                                                    "sysctl net.ipv4.ip_unprivileged_port_start is 900, and not 1024"]))
+
+    def test_words_that_nobody_takes(self):
+        """It serves, whatever becomes of its line."""
+        reads, closed = os.pipe()
+        os.close(reads)
+        for output in (open("/dev/full", "w"), open(closed, "w")):
+            with output:
+                launcher = self.start(stdout=output)
+            while not status.facts_of("test0"):
+                self.assertIsNone(launcher.poll())
+                time.sleep(0.05)
+            self.echo()
+            launcher.terminate()
+            self.assertEqual(self.ended(launcher), (0, []))
+
+
+    def test_the_log_of_what_the_launcher_resets(self):
+        """The client's own reset only answers the launcher's: the server ended first. So it is behind each way of ending, and with rings."""
+        for words, end in (((), signal.SIGTERM), (("--grace", "1"), signal.SIGTERM), (("--grace", "30"), signal.SIGINT), ((), signal.SIGKILL), (("--rings", "2"), signal.SIGTERM)):
+            with self.subTest(words=words, end=end), tempfile.NamedTemporaryFile() as log:
+                launcher = self.start(*words, "--log", log.name)
+                with self.echo() as client, self.echo() as resets:
+                    resets.setsockopt(socket.SOL_SOCKET, socket.SO_LINGER, struct.pack("ii", 1, 0))
+                    resets.close()
+                    time.sleep(0.2)
+                    if end == signal.SIGKILL:
+                        os.kill(self.program(launcher), end)
+                    for _ in range(1 if end == signal.SIGTERM else 2):
+                        time.sleep(0.2)
+                        launcher.send_signal(end if end != signal.SIGKILL else signal.SIGTERM)
+                    self.ended(launcher)
+                    if not words:
+                        self.assertRaises(ConnectionResetError, client.recv, 1)
+                self.assertEqual([line.split()[-1] for line in Path(log.name).read_text().splitlines()], ["reset-by-client", "left-open"])
+
+
 class Launcher(unittest.TestCase):
     def refused(self, *words, files=None):
-        """What is said of words that are refused with the usage line, before a device is opened; the launcher may have so many files."""
+        """What is said in one line of words that are refused, before a device is opened; the launcher may have so many files."""
         limit = (files,) * 2 if files else resource.getrlimit(resource.RLIMIT_NOFILE)
-        done = subprocess.run([TOOLS / "sqlive", "--program", "/bin/true", *words], capture_output=True, text=True,
+        program = () if "status" in words else ("--program", "/bin/true")
+        done = subprocess.run([TOOLS / "sqlive", *program, *words], capture_output=True, text=True, timeout=60,
                               preexec_fn=lambda: resource.setrlimit(resource.RLIMIT_NOFILE, limit))
-        self.assertEqual((done.returncode, done.stdout), (2, ""), words)
-        self.assertIn("usage: sqlive", done.stderr)
+        self.assertEqual((done.returncode, done.stdout, done.stderr.count("\n")), (2, "", 1), (words, done.stderr))
+        self.assertRegex(done.stderr, "^sqlive: .* [(]--help tells all words[)]\n$")
         return done.stderr
 
     def test_words_that_are_none(self):
@@ -719,6 +982,19 @@ class Launcher(unittest.TestCase):
         self.assertIn("from 1 to 63", self.refused("--rings", "64"))
         for words in (("--rings", "0"), ("--rings", "2", "--mode", "none"), ("--places", "-1"), ("--server", "10.9.0.1"), ("--server", "10.8.0.2"), ("--mtu", "500")):
             self.refused(*words)
+
+    def test_help(self):
+        self.assertIn("usage: sqlive", subprocess.run([TOOLS / "sqlive", "--help"], capture_output=True, text=True, check=True).stdout)
+        with open("/dev/full", "w") as full:
+            done = subprocess.run([TOOLS / "sqlive", "--help"], stdout=full, stderr=subprocess.PIPE, text=True)
+        self.assertEqual((done.returncode, done.stderr), (1, "sqlive: standard output: No space left on device\n"))
+
+    def test_words_of_another_mode(self):
+        for words, said in (("--follow", "--follow goes with status"), ("--prometheus", "--prometheus goes with status"), ("--single-segments", "--single-segments goes with --rings"),
+                            ("--mode fill", "--mode goes with --rings"), ("status --rings 4", "--rings doesn't go with status"), ("status --log zz", "--log doesn't go with status"),
+                            ("status --single-segments", "--single-segments doesn't go with status"), ("status --grace 3", "--grace doesn't go with status"),
+                            ("status --prometheus --follow", "--prometheus tells all once, and --follow a line each second")):
+            self.assertIn(said, self.refused("--device", "lo", *words.split()))
 
     def test_bounds_are_told(self):
         for words, said in (("--memory 4096", "from 1 to 4095"), ("--idle 4294967296", "from 1 to 4294967295"), ("--places 4294967296", "from 1 to 4294967295"),
@@ -731,19 +1007,54 @@ class Launcher(unittest.TestCase):
         self.assertIn("it takes 56 file descriptors, 5 of them for each ring, and may have 32", self.refused("--rings", "8", files=32))
         self.assertIn("it takes 72 file descriptors, 5 of them for each ring, and may have 64", self.refused("--rings", "8", "--pages", "/", files=64))
 
+    def test_addresses_that_nobody_serves(self):
+        """Those whose segments the program drops, and the network's own and its broadcast address."""
+        for host, server in (("240.0.0.1/24", "240.0.0.2"), ("0.0.0.1/8", "0.0.0.2"), ("127.0.0.1/8", "127.0.0.2"), ("224.0.0.1/24", "224.0.0.2"), ("10.9.0.0/24", "10.9.0.2"),
+                             ("10.9.0.255/24", "10.9.0.2"), ("126.0.0.1/7", "127.0.0.2"), ("127.0.0.1/7", "126.0.0.2"), ("223.0.0.1/3", "255.0.0.2")):
+            self.assertIn("no host's address", self.refused("--device", "lo", "--host", host, "--server", server))
+
     def test_a_capture_that_is_there_is_kept(self):
         with tempfile.NamedTemporaryFile() as capture:
             Path(capture.name).write_text("of another launcher")
-            self.assertIn(f"--capture {capture.name} is there, and isn't empty", self.refused("--capture", capture.name))
+            self.assertIn(f"--capture {capture.name} is there, and isn't empty", self.refused("--capture", capture.name, "--log", f"{capture.name}.log"))
+            self.assertFalse(os.path.exists(f"{capture.name}.log"))
             self.assertEqual(Path(capture.name).read_text(), "of another launcher")
+
+    def test_one_file_for_both(self):
+        """By its name, by links, and where it isn't there yet."""
+        with tempfile.TemporaryDirectory() as folder:
+            names = [Path(folder, name) for name in ("new", "empty", "link", "hard", "dangling")]
+            names[1].touch()
+            names[2].symlink_to(names[1])
+            names[3].hardlink_to(names[1])
+            names[4].symlink_to(names[0])
+            for log, capture in ((0, 0), (0, 4), (1, 1), (1, 2), (2, 3)):
+                self.assertIn("is written already", self.refused("--device", "lo", "--log", names[log], "--capture", names[capture]))
+            self.assertFalse(names[0].exists())
+
+    def test_a_pipe_that_nobody_reads(self):
+        with tempfile.TemporaryDirectory() as folder:
+            os.mkfifo(pipe := f"{folder}/pipe")
+            for word in ("--log", "--capture"):
+                self.assertIn(f"{word} {pipe}: no program reads this pipe", self.refused("--device", "lo", word, pipe))
+
+    def test_no_name_of_a_file(self):
+        for word in ("--log", "--capture"):
+            self.assertIn(f"{word} wants the name of a file, and - is none", self.refused("--device", "lo", word, "-"))
 
     def test_a_log_grows(self):
         """A launcher that finds no device adds nothing to what is there."""
         with tempfile.NamedTemporaryFile() as log:
-            Path(log.name).write_text("of yesterday\n")
+            Path(log.name).write_text(of_yesterday := "2026-12-01T19:45:31.011Z 10.9.0.1:56548 7 0.000 closed\n")
             done = subprocess.run([TOOLS / "sqlive", "--program", "/bin/true", "--device", "lo", "--log", log.name], capture_output=True, text=True)
-            self.assertEqual((done.returncode, Path(log.name).read_text()), (1, "of yesterday\n"))
+            self.assertEqual((done.returncode, Path(log.name).read_text()), (1, of_yesterday))
         self.assertIn("no TUN device", done.stderr)
+
+    def test_a_file_that_is_no_log(self):
+        with tempfile.NamedTemporaryFile() as other:
+            Path(other.name).write_bytes(b"of somebody\n")
+            self.assertIn(f"--log {other.name}: it ends with no line of a log", self.refused("--device", "lo", "--log", other.name))
+            self.assertEqual(Path(other.name).read_bytes(), b"of somebody\n")
 
     def test_the_unit_file(self):
         need("systemd-analyze")
@@ -797,7 +1108,7 @@ class Pages(unittest.TestCase):
         (self.top / ".hidden").write_bytes(b"no")
         pack, count, hidden = pages.pack_of(self.top)
         found = http_model.pages_in(pack)
-        self.assertEqual((sorted(found), count, len(hidden)), ([b"/a.css", b"/sub/", b"/sub/index.html"], 3, 1))
+        self.assertEqual((sorted(found), count, len(hidden)), ([b"/a.css", b"/sub/", b"/sub/index.html"], 2, 1))
         self.assertEqual((found[b"/sub/"].body, found[b"/a.css"].kind), (b"<p>here", b"text/css; charset=utf-8"))
 
     def test_refused_folders(self):
