@@ -31,9 +31,9 @@ class Judged:
 class Swapped(Handshake):
     """A handshake seen from the client: its SYN stands in the place of the answer."""
 
-    def __init__(self, shake, settled):
-        super().__init__([shake.answer], shake.syns[-1])
-        self.trip = max(0, settled - shake.answer.at)       # from the capture's place to the client and back
+    def __init__(self, shake):
+        super().__init__(shake.answers, shake.all_syns)
+        self.trip, self.back = shake.back, shake.trip
 
 
 class Sides:
@@ -79,8 +79,7 @@ class Sides:
         """What one side of a life does against a rule."""
         found = Found()
         found.doubt = bool(self.broken) or any(one.by_kind for one in self.left_out.values())
-        settled = next((s.at for s in life.client if s.record > shake.answer.record and not opens(s)), shake.answer.at)
-        other = Swapped(shake, settled)
+        other = Swapped(shake)
         found.wire = max(shake.trip, other.trip) >= LATE
         listed = sorted(life.client + life.server, key=lambda s: s.record)
         card = any(s.record in self.read.card for s in listed)
@@ -88,7 +87,7 @@ class Sides:
             judge_handshake(life, shake, found)
             watch = Watch(life, shake, found, card, until)
         else:
-            watch = Watch(Life(life.server, [], life.client, shake.answer.seq, life.irs), other, found, card, until)
+            watch = Watch(Life(life.server, [], life.client, shake.answer.seq, life.irs), other, found, card, until, SIDES[::-1])
         for segment in listed:
             watch.take(segment)
         watch.end()

@@ -105,8 +105,8 @@ def compare_life(one, found, beside, offloaded, until):
         compare_handshake(part, shake, found)
         if n == beside_us and ours is not None:
             one.trip = shake.trip
-            one.parted = parting(part, shake, Handshake([syn], ours))
-            beside_reference(one, part, watch, (shake, Handshake([syn], ours)), beside, found)
+            one.parted = parting(part, shake, Handshake([syn], [ours]))
+            beside_reference(one, part, watch, (shake, Handshake([syn], [ours])), beside, found)
     one.state = watch.state
     compare_end(one, watch, found)
 
@@ -120,7 +120,7 @@ def beside_reference(one, part, watch, shakes, beside, found):
     shake, our_shake = shakes
     if one.parted:
         found.add("parts", one.parted.segment, told(one.parted), one.parted.reference)
-        compare_text(part, watch, service_text(part, one.served.service), found, True)
+        compare_text(part, watch, service_text(part, one.served.service), found, "acknowledged what isn't captured" not in found.by_kind)
         part = one.parted.before(part)
         if not part.server:
             return
@@ -147,9 +147,16 @@ def handshakes(life):
                 shakes.append((asked, s))
                 since = {}
     ends = [(asked[0].record, answer.record) for asked, answer in shakes[1:]] + [(1 << 63, 1 << 63)]
-    return [(replace(life, client=[s for s in life.client if asked[0].record <= s.record < client_end],
-                     server=[s for s in life.server if answer.record <= s.record < server_end], irs=asked[0].seq), Handshake(asked, answer))
-            for (asked, answer), (client_end, server_end) in zip(shakes, ends)]
+    parts = [replace(life, client=[s for s in life.client if asked[0].record <= s.record < client_end],
+                     server=[s for s in life.server if answer.record <= s.record < server_end], irs=asked[0].seq)
+             for (asked, answer), (client_end, server_end) in zip(shakes, ends)]
+    return [(part, handshake(part, answer)) for part, (_, answer) in zip(parts, shakes)]
+
+
+def handshake(life, answer):
+    """What belongs to the handshake whose first answer this is."""
+    settled = next((s.at for s in life.client if s.record > answer.record and not opens(s)), None)
+    return Handshake([s for s in life.client if opens(s) and s.seq == life.irs], [s for s in life.server if accepts(s) and s.seq == answer.seq], settled)
 
 
 def watched(life, shake, found, segments, offloaded, until):
@@ -166,7 +173,8 @@ def no_syn_ack(life, syn, found):
     answers = [s for s in life.server if s.record > syn.record]
     refusals = [s for s in answers if s.has(RST) and not of_another(s, life.client)]
     if not refusals:
-        found.add("no answer", syn, "no SYN,ACK in the capture", "SYN,ACK")
+        before = any(accepts(s) and 1 <= near(s.ack, syn.seq) <= syn.span() for s in life.server)
+        found.add("no answer", syn, "SYN,ACK stands before its SYN: the capture is out of order" if before else "no SYN,ACK in the capture", "SYN,ACK")
         return ""
     first = refusals[0]
     found.add("SYN refused", first, "reset", "SYN,ACK")
@@ -203,7 +211,7 @@ def judge_handshake(life, shake, found):
     if SCALE in shake.offered and shake.offered[SCALE][0] > 14:
         found.add("window scale over 14", answer, option_text(SCALE, shake.offered), "at most 14")
     again = [s for s in life.server if s.has(SYN)]
-    judge_timeouts([s.at for s in unasked(again, life.client)], again[-1], found)
+    judge_timeouts(unasked(again, life.client), found)
 
 
 def compare_handshake(life, shake, found):
@@ -225,11 +233,13 @@ def taken(client, answer):
 
 
 def unasked(answers, client):
-    """The last SYN,ACK that a SYN asked for, and those behind it that a timer sent."""
+    """The last SYN,ACK that a SYN asked for, and those behind it that a timer sent. One that follows soon answers a SYN that the wire doubled."""
     asked, out = 0, []
     for answer in answers:
         if asked < sum(s.has(SYN) and s.record < answer.record for s in client):
             asked, out = asked + 1, []
+        elif out and answer.at - out[-1].at < LATE:
+            out = []
         out.append(answer)
     return out
 

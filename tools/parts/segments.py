@@ -21,6 +21,11 @@ def all_flags(segment):
 
 def options(segment):
     """The options of a segment by number: the first of each with its right size."""
+    return parsed_options(segment)[0]
+
+
+def parsed_options(segment):
+    """The same, and what is said of the first one whose length isn't one, or None."""
     tcp, out = header(segment), {}
     data, at = tcp[20:tcp[12] >> 2 & 60], 0
     while at < len(data) and data[at]:
@@ -28,12 +33,12 @@ def options(segment):
             at += 1
             continue
         if at + 1 >= len(data) or data[at + 1] < 2 or at + data[at + 1] > len(data):
-            break
+            return out, f"option {data[at]} of length {data[at + 1]}" if at + 1 < len(data) else f"option {data[at]} without a length"
         kind, length = data[at], data[at + 1]
         if SIZES.get(kind, length) == length:
             out.setdefault(kind, data[at + 2:at + length])
         at += length
-    return out
+    return out, None
 
 
 def text(segment):

@@ -13,7 +13,7 @@ LINES = 10                  # of the first screen
 GROUPS = 25                 # of connections that differ alike
 SHOWN = 3                   # connections that are named of a group
 COLOURS = {"MUST": "31;1", "SHOULD": "33;1", "service": "36", "choice": "2", "unjudged": "2"}
-FIELDS = ("connection", "life", "ends", "side", "kind", "verdict", "section", "count", "frame", "frames", "at_us", "frames_at_us", "captured", "sqrun", "allowed")
+FIELDS = ("connection", "life", "ends", "side", "kind", "verdict", "section", "count", "frame", "frames", "at_us", "frames_at_us", "captured", "sqrun", "allowed", "why")
 
 
 @dataclass
@@ -126,7 +126,7 @@ def of_sqrun(one, d):
 
 
 def sides(one, d):
-    return f"captured: {d.captured}" + f"; sqrun: {of_sqrun(one, d)}" * bool(of_sqrun(one, d)) + f"; allowed: {allowed(d)}" * bool(allowed(d))
+    return f"captured: {d.captured}" + f"; sqrun: {of_sqrun(one, d)}" * bool(of_sqrun(one, d)) + f"; allowed: {allowed(d)}" * bool(allowed(d)) + f"; unjudged, since {d.why}" * bool(d.why)
 
 
 def free(summary):
@@ -195,7 +195,7 @@ def rows(listed):
         for d in one.differences:
             kind = KINDS[d.kind]
             yield {"connection": one.number, "life": one.life, "ends": one.ends, "side": one.side, "kind": d.kind, "verdict": d.verdict, "section": kind.section,
-                   "count": d.count, "frame": d.frame, "frames": d.frames, "at_us": d.times[0] if d.times else d.at, "frames_at_us": d.times, "captured": d.captured, "sqrun": of_sqrun(one, d), "allowed": allowed(d)}
+                   "count": d.count, "frame": d.frame, "frames": d.frames, "at_us": d.times[0] if d.times else d.at, "frames_at_us": d.times, "captured": d.captured, "sqrun": of_sqrun(one, d), "allowed": allowed(d), "why": d.why}
 
 
 def last_row(outcome, summary):

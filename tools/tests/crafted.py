@@ -4,7 +4,7 @@ from pathlib import Path
 
 from generated import BEGIN, checksum, write
 
-FIN, SYN, RST, PSH, ACK, URG, ECE = 1, 2, 4, 8, 16, 32, 64
+FIN, SYN, RST, PSH, ACK, URG, ECE, CWR = 1, 2, 4, 8, 16, 32, 64, 128
 CLIENT, SERVER = (0x0a000001, 4000), (0x0a000002, 7)
 CLIENT_START, SERVER_START = 5_000, 900_000
 MSS, SCALED, SACKED, STAMPED = b"\x02\x04\x05\xb4", b"\x01\x03\x03\x07", b"\x01\x01\x04\x02", b"\x01\x01\x08\x0a" + bytes(7) + b"\1" + bytes(4)

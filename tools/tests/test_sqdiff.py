@@ -18,7 +18,7 @@ from pathlib import Path
 from unittest import mock
 
 from common import MODEL, SQRUN, TOOLS, TOP, captures, need, output
-from crafted import ACK, ECE, FIN, MSS, PSH, RST, SACKED, SCALED, STAMPED, SYN, URG, Talk, as_ipv6
+from crafted import ACK, CWR, ECE, FIN, MSS, PSH, RST, SACKED, SCALED, STAMPED, SYN, URG, Talk, as_ipv6
 from browser import Browser, COMMAND
 from drawing import seconds
 from generated import BEGIN, write
@@ -90,9 +90,43 @@ def late_behind(change):
     return talk.down(ACK | PSH, b"hello", wait=SECOND * 7 // 10).up()
 
 
+def noticed():
+    """An open connection that uses congestion notification."""
+    return Talk().up(SYN | ECE | CWR, options=MSS).down(SYN | ACK | ECE, options=MSS, mark=True).up()
+
+
+def probed(*waits):
+    """A closed window, probed after so many seconds each."""
+    talk = Talk().open().up(ACK | PSH, b"hello", window=0).down()
+    for n, wait in enumerate(waits):
+        talk.down(ACK | PSH, b"h", seq=1, wait=int(wait * SECOND), mark=n == 2).up(ack=1, window=0)
+    talk.theirs += 1
+    return talk.up().down(ACK | PSH, b"ello").up()
+
+
+def taken(count):
+    """A closed window whose client takes the byte of each probe."""
+    talk = Talk().open().up(ACK | PSH, b"hello" * 5, window=0).down()
+    for n in range(count):
+        talk.down(ACK | PSH, (b"hello" * 5)[n:n + 1], wait=SECOND).up(window=0)
+    return talk.up().down(ACK | PSH, (b"hello" * 5)[count:]).up()
+
+
+def refused():
+    """An echo past the window, which is refused, and goes again once there is room; the first one is marked."""
+    return Talk(window=1_000).open().up(ACK | PSH, b"x" * 1_400).down(ACK | PSH, b"x" * 1_000).down(ACK | PSH, b"x" * 400, mark=True).up(ack=1_001, window=0).up(
+        ack=1_001, window=0)
+
+
 def swapped(talk):
     """The last two records have changed places, with their times."""
     talk.records[-2:] = talk.records[:-3:-1]
+    return talk
+
+
+def turned(talk):
+    """The last record first."""
+    talk.records.reverse()
     return talk
 
 
@@ -114,13 +148,16 @@ STORIES = {
     "window scale over 14": lambda: opened(asked=MSS + SCALED, offered=MSS + b"\x01\x03\x03\x0f").echo(),
     "selective acknowledgements": lambda: opened(asked=MSS + SACKED, offered=MSS + SACKED).echo(),
     "selective acknowledgements unasked": lambda: Talk().open().echo().down(options=b"\1\1\5\x0a" + bytes(8), mark=True),
+    "selective acknowledgement unsent": lambda: opened(asked=MSS + SACKED, offered=MSS + SACKED).echo(options=b"\1\1\5\x0a\x10\0\0\1\x10\0\0\5", mark=True),
+    "option malformed": lambda: Talk().open().echo(options=b"\x08\0\0\0", mark=True),
     "timestamps": lambda: stamped(opened(asked=MSS + STAMPED, offered=MSS + STAMPED, late=STAMPED)),
     "timestamps unasked": lambda: opened(offered=MSS + STAMPED).echo(),
     "timestamp missing": lambda: stamped(opened(asked=MSS + STAMPED, offered=MSS + STAMPED, late=STAMPED)).up(ACK | PSH, b"x", options=STAMPED).down(
         ACK | PSH, b"x", mark=True).up(options=STAMPED),
     "maximum segment size later": lambda: Talk().open().echo(options=MSS, mark=True),
     "SYN,ACK again": lambda: Talk().up(SYN, options=MSS).down(SYN | ACK, options=MSS, mark=True).up(wait=SECOND * 3 // 2).echo(),
-    "congestion notification": lambda: Talk().open().up(ACK | PSH, b"hello").down(ACK | PSH | ECE, b"hello", mark=True).up(),
+    "congestion notification": lambda: noticed().up(ACK | PSH, b"hello").down(ACK | PSH | ECE, b"hello").up(),
+    "congestion notification unasked": lambda: Talk().open().up(ACK | PSH, b"hello").down(ACK | PSH | ECE, b"hello", mark=True).up(),
     "captured twice": lambda: Talk().open().up(ACK | PSH, b"hello").down(ACK | PSH, b"hello", number=77).down(
         ACK | PSH, b"hello", seq=1, number=77, wait=20, mark=True).up(),
     "not whole in the capture": lambda: late_behind(lambda body: body[:-1]),
@@ -138,7 +175,7 @@ STORIES = {
     "selective acknowledgements permitted later": lambda: Talk().open().echo(options=SACKED, mark=True),
     "checksum wrong each time": lambda: Talk().open().echo().echo().echo().up(ACK | PSH, b"hello").down().down(ACK | PSH, b"hello", wrong=True, mark=True).down(
         ACK | PSH, b"hello", seq=16, wrong=True, wait=SECOND).down(ACK | PSH, b"hello", seq=16, wrong=True, wait=2 * SECOND).up(ack=16, wait=SECOND),
-    "acknowledged before it came": lambda: Talk().open().up(ACK | PSH, b"hello").down(ACK | PSH, b"hello", ack=11, mark=True).up(
+    "acknowledged before it came": lambda: Talk().open().echo().up(ACK | PSH, b"hello").down(ACK | PSH, b"hello", ack=16, mark=True).up(
         ACK | PSH, b"world", wait=50_000).down(ACK | PSH, b"world").up(),
     "acknowledged what isn't captured": lambda: Talk().open().up(ACK | PSH, b"hello").down(ACK | PSH, b"hello", ack=11, mark=True).up(),
     "text isn't captured": lambda: Talk().open().up(ACK | PSH, b"hello").up(seq=6, ack=6),
@@ -172,6 +209,7 @@ STORIES = {
         ACK | PSH, b"h", seq=1, wait=SECOND).down(ACK | PSH, b"h", seq=1, wait=SECOND * 2).up().down(ACK | PSH, b"ello").up(),
     "window probed without text": lambda: Talk().open().up(ACK | PSH, b"hello", window=0).down().down(seq=0, wait=SECOND, mark=True).up(
         window=0).up().down(ACK | PSH, b"hello").up(),
+    "window probed without backoff": lambda: probed(*[1] * 10),
     "window not probed": lambda: Talk().open().up(ACK | PSH, b"hello", window=0, mark=True).down().up(wait=SECOND * 70).down(ACK | PSH, b"hello").up(),
     "reset": lambda: Talk().open().echo().down(ACK | RST, mark=True),
     "no reset": lambda: Talk().open().echo().up(RST).up(wait=SECOND),
@@ -197,6 +235,10 @@ CONTROLS = {
     "the answer to the first of two SYNs": lambda: Talk().up(SYN, options=MSS + SCALED).up(SYN, seq=500_000, options=MSS).down(
         SYN | ACK, options=MSS + SCALED, ack=1).up(),
     "a SYN without options behind one that has them": lambda: Talk().up(SYN, options=MSS + SCALED).up(SYN, seq=0).down(SYN | ACK, options=MSS + SCALED).up(),
+    "a SYN again without timestamps": lambda: opened(asked=MSS + STAMPED, offered=MSS + STAMPED).up(SYN, seq=0, options=MSS, wait=SECOND).down(
+        SYN | ACK, seq=0, options=MSS).up().echo().close(),
+    "a SYN again that names a smaller size": lambda: Talk().up(SYN, options=MSS).up(SYN, seq=0, options=b"\x02\x04\x02\x18", wait=SECOND).down(
+        SYN | ACK, options=MSS).up().echo(b"x" * 1_000).close(),
     "a text that the wire spoils, and that is sent again": lambda: texts().up(ACK | PSH, b"hello", wrong=True).up(
         ACK | PSH, b"world").down(ack=1).up(ACK | PSH, b"hello", seq=1, wait=SECOND * 6 // 10).down(),
     "acknowledgements that the wire spoils": lambda: texts().up(ACK | PSH, b"one").down(wrong=True).up(ACK | PSH, b"two", wait=SECOND * 7 // 10).down().up(
@@ -222,7 +264,9 @@ CONTROLS = {
         ACK | PSH, b"two", wait=SECOND // 3).down(ACK | PSH, b"two").up(),
     "acknowledgements that are too late by more than a timer": lambda: texts().up(ACK | PSH, b"one").down(wait=SECOND * 2),
     "a keep-alive with a byte": lambda: Talk().open().echo().down(ACK, b"\0", seq=5, wait=60 * SECOND).up(),
-    "accurate congestion notification": lambda: Talk().open().echo(reserved=1),
+    "accurate congestion notification": lambda: noticed().echo(reserved=1),
+    "probes whose bytes are taken": lambda: taken(12),
+    "probes that wait five seconds at first": lambda: probed(5, 5, 5, 5, 6, 12, 24, 48, 60, 60, 60),
     "a text that came when the window was open again": lambda: Talk().open().echo().up(window=0).up(wait=70 * SECOND).echo().close(),
     "echo": lambda: Talk().open().echo().echo(b"x" * 1_460).close(),
     "discard": lambda: texts().up(ACK | PSH, b"hello").down().close(),
@@ -247,6 +291,19 @@ CONTROLS = {
     "a segment asked for by a selective acknowledgement": lambda: opened(asked=MSS + SACKED, offered=MSS + SACKED).up(ACK | PSH, b"hello").down(
         ACK | PSH, b"hello").up(ACK | PSH, b"world").down(ACK | PSH, b"world").up(ack=1, options=b"\1\1\5\x0a" + (900_006).to_bytes(4, "big") + (
             900_011).to_bytes(4, "big")).down(ACK | PSH, b"hello", seq=1).up(),
+    "a probe for the tail after two round trips": lambda: opened(asked=MSS + SACKED, offered=MSS + SACKED).up(ACK | PSH, b"hello").down(
+        ACK | PSH, b"hello").down(ACK | PSH, b"hello", seq=1, wait=1_500).down(ACK | PSH, b"hello", seq=1, wait=SECOND).up(),
+    "two answers to a SYN that the wire doubled": lambda: Talk().up(SYN, options=MSS).down(SYN | ACK, options=MSS, number=1).up().down(
+        SYN | ACK, options=MSS, seq=0, wait=10, number=2).up().echo().close(),
+    "all that goes again behind a timeout": lambda: Talk().open().up(ACK | PSH, b"hello").down(ACK, b"hel").up(ACK | PSH, b"world", wait=SECOND * 9 // 10).down(
+        ACK | PSH, b"lo").down(ACK, b"hel", seq=1, wait=SECOND // 10).up(ack=4).down(ACK | PSH, b"lo", seq=4).up().down(ACK | PSH, b"world").up(),
+    "text in a SYN, which the server takes": lambda: Talk().up(SYN, b"hello", options=MSS).down(SYN | ACK, options=MSS).up(ack=1).down(
+        ACK | PSH, b"hello").up().up(ACK | PSH, b"world", wait=50_000).down(ACK | PSH, b"world").up().close(),
+    "text in a SYN, which goes again": lambda: Talk().up(SYN, b"hello", options=MSS).down(SYN | ACK, options=MSS, ack=1).up(
+        ACK | PSH, b"hello", seq=1).down(ACK | PSH, b"hello").up().close(),
+    "echoes that stand before their texts, by another clock": lambda: Talk().open().down(ACK | PSH, b"hello", ack=6).up(ACK | PSH, b"hello", ack=1, wait=20_000).up(wait=100).down(
+        ACK | PSH, b"world", ack=11, wait=SECOND).up(ACK | PSH, b"world", ack=6, wait=20_000).up().close(),
+    "a capture whose records are turned round": lambda: turned(Talk().open().echo().close()),
     "a segment asked for by three acknowledgements": lambda: Talk().open().up(ACK | PSH, b"hello").down(ACK | PSH, b"hello").up(ack=1).up(ack=1).up(
         ack=1).down(ACK | PSH, b"hello", seq=1).up(),
 }
@@ -265,20 +322,22 @@ OF_CLIENTS = {
     "no backoff": lambda: Talk().open().up(ACK | PSH, b"hello").up(ACK | PSH, b"hello", seq=1, wait=SECOND).up(ACK | PSH, b"hello", seq=1, wait=SECOND).up(
         ACK | PSH, b"hello", seq=1, wait=SECOND, mark=True).down(ACK | PSH, b"hello").up(),
     "acknowledged what wasn't sent": lambda: Talk().open().echo().up(ACK | FIN).down(ACK | FIN).up(ack=5_008, mark=True),
-    "acknowledged before it came": lambda: Talk().open().up(ACK | PSH, b"hello").down(ACK | PSH, b"hello").up(ack=11, mark=True).down(
+    "acknowledged before it came": lambda: Talk().open().echo().up(ACK | PSH, b"hello").down(ACK | PSH, b"hello").up(ack=16, mark=True).down(
         ACK | PSH, b"world", wait=50_000).up(),
     "reset with a wrong number": lambda: Talk().open().echo().up(RST, seq=5_000_000, mark=True),
+    "selective acknowledgement unsent": lambda: opened(asked=MSS + SACKED, offered=MSS + SACKED).up(ACK | PSH, b"hello").down(ACK | PSH, b"hello").up(
+        ack=1, options=b"\1\1\5\x0a\x10\0\0\1\x10\0\0\5", mark=True).up(),
     "timestamps unasked": lambda: Talk().open().echo().up(options=STAMPED, mark=True).close(),
     "window shrunk": lambda: Talk().open().up(ACK | PSH, b"hello").down(ACK | PSH, b"hello").up().up(window=100, wait=5_000, mark=True).close(),
 }
 
 
-def at_port(datagram, port):
+def at_port(datagram, port, old=(7, 9)):
     """The same segment with another port of its server in the place of 7 and 9, and a checksum that is as right or wrong."""
     header = 4 * (datagram[0] & 15)
     for at in (header, header + 2):
         held = int.from_bytes(datagram[at:at + 2], "big")
-        if held in (7, 9) and len(datagram) >= header + 18:
+        if held in old and len(datagram) >= header + 18:
             total = (0xffff ^ int.from_bytes(datagram[header + 16:header + 18], "big")) + (0xffff ^ held) + port
             total = (total & 0xffff) + (total >> 16)
             total = 0xffff ^ ((total & 0xffff) + (total >> 16))
@@ -331,6 +390,8 @@ class Kinds(unittest.TestCase):
                     self.assertEqual([line["kind"] for line in server], [kind for kind, _ in wanted])
                     self.assertTrue(all(frame in (None, line["frame"]) for (_, frame), line in zip(wanted, server)), (wanted, server))
                     self.assertEqual(status, 2 if not summary["judged"] else int(any(line["verdict"] == "MUST" for line in found)))
+                    if name == "text after FIN":        # what a server does wrong is no gap that its client should acknowledge
+                        self.assertEqual([line["kind"] for line in found if line["side"] == "client"], [])
 
     def test_what_is_right_alone(self):
         """No MUST of either side, and no SHOULD of the server."""
@@ -388,6 +449,72 @@ class Kinds(unittest.TestCase):
                         self.assertIn(word, told)
                     if shape == ("--json",):
                         self.assertEqual(json.loads(said.splitlines()[-1])["compared"], 0)
+
+    def test_past_the_window(self):
+        """A text that was refused breaks a MUST also where it goes again once there is room; one that the client takes without that doesn't."""
+        again = refused().up(ack=1_001, window=5_000, wait=SECOND // 2).down(ACK | PSH, b"x" * 400, seq=1_001, wait=SECOND).up(window=5_000)
+        for talk, verdict in ((again, "MUST"), (refused().up(wait=SECOND // 2), "unjudged")):
+            found, _, status = lines(talk.save(self.folder))
+            self.assertEqual([(line["verdict"], line["frame"], line["count"]) for line in found if line["kind"] == "past the window"], [(verdict, talk.marked, 1)])
+            self.assertEqual(status, int(verdict == "MUST"))
+
+    def test_a_reset_behind_the_end(self):
+        """Once its FIN is acknowledged a server has only one number left, and what it answers."""
+        for number, count in ((555, 1), (7, 0)):
+            found, _, _ = lines(Talk().open().echo().close().up(wait=SECOND).down(RST, seq=number).save(self.folder))
+            self.assertEqual(sum(line["kind"] == "reset with a wrong number" for line in found), count, found)
+
+    def test_windows_that_are_not_probed(self):
+        """By how long they are closed; where the capture ends, it isn't known whether text waits."""
+        closed = lambda wait: Talk().open().up(ACK | PSH, b"hello", window=0, mark=True).down().up(wait=int(wait * SECOND)).down(ACK | PSH, b"hello").up()
+        until_the_end = Talk().open().up(ACK | PSH, b"hello", window=0, mark=True).down().up(window=0, wait=SECOND * 70)
+        for talk, verdict in ((closed(2), None), (closed(59), "unjudged"), (closed(61), "MUST"), (until_the_end, "unjudged")):
+            for words in ((), ("--alone",)):
+                found, _, _ = lines(talk.save(self.folder), *words)
+                self.assertEqual([(line["verdict"], line["frame"]) for line in found if line["kind"] == "window not probed"], [(verdict, talk.marked)] * bool(verdict))
+
+    def test_the_timeout_that_is_early(self):
+        """Its frame is named, and not that of the last one."""
+        talk = Talk().open().up(ACK | PSH, b"hello").down(ACK | PSH, b"hello").down(ACK | PSH, b"hello", seq=1, wait=SECOND).down(
+            ACK | PSH, b"hello", seq=1, wait=SECOND // 5, mark=True).down(ACK | PSH, b"hello", seq=1, wait=SECOND * 3).up()
+        found, _, _ = lines(talk.save(self.folder))
+        self.assertEqual([(line["frame"], line["captured"]) for line in found if line["kind"] == "sent again early"], [(talk.marked, "after 200 ms")])
+
+    def test_what_a_gap_lacks(self):
+        """What isn't captured is told of the side whose it is, and how much; nothing else is made of it."""
+        of = lambda found, side: {line["kind"]: line["captured"] for line in found if line["side"] == side and line["verdict"] in GRAVE and not line["why"]}
+        found, _, _ = lines(Talk().open().up(ACK | PSH, b"hello").up(ack=6).up(ACK | PSH, b"world!", ack=6, wait=50_000).down(ACK | PSH, b"world!", seq=6).up(ack=12).save(self.folder))
+        self.assertEqual(of(found, "server"), {"text isn't captured": "all but 5 bytes of the server's text, which the client acknowledged"})
+        self.assertEqual(of(found, "client"), {"acknowledged what isn't captured": "all but 5 bytes of the server's text, from 1 on"})
+        found, _, _ = lines(Talk().open().down(ACK | PSH, b"hello", ack=6).up(seq=6).up(ACK | PSH, b"world!", seq=6, wait=50_000).down(ACK | PSH, b"world!", ack=12).up(seq=12).save(self.folder))
+        self.assertEqual({kind: said for kind, said in of(found, "server").items() if kind != "parts"},
+                         {"acknowledged what isn't captured": "all but 5 bytes of the client's text, from 1 on"})
+        self.assertEqual(of(found, "client"), {"text isn't captured": "all but 5 bytes of the client's text, which the server acknowledged"})
+        self.assertNotIn("text", {line["kind"] for line in found})
+
+    def test_text_in_a_syn(self):
+        """It's captured, and no gap is in it, whether the server takes it or it goes again."""
+        for name in ("text in a SYN, which the server takes", "text in a SYN, which goes again"):
+            found, _, _ = lines(CONTROLS[name]().save(self.folder))
+            self.assertLessEqual({line["kind"] for line in found if line["verdict"] in GRAVE}, {"parts"}, found)
+
+    def test_a_client_at_a_served_port(self):
+        """A client's port of 7 or 9 makes a client of neither server."""
+        for port in (7, 9):
+            talk = Talk().open().echo(reserved=4, mark=True).close()
+            found, summary, _ = lines(talk.save(self.folder, changed=lambda datagram: at_port(datagram, port, (4_000,))))
+            self.assertEqual([(line["kind"], line["frame"]) for line in found], [("reserved bits", talk.marked)])
+            self.assertEqual((summary["connections"], summary["compared"]), (1, 1))
+
+    def test_an_end_that_is_told_later(self):
+        """An acknowledgement beyond FIN, which came before FIN."""
+        talk = Talk().open().up(ACK | PSH, b"hello").down(ACK | PSH, b"hello", ack=500, mark=True).up().close()
+        found, _, _ = lines(talk.save(self.folder))
+        self.assertEqual([(line["kind"], line["frame"]) for line in found if line["verdict"] == "MUST"], [("acknowledged what wasn't sent", talk.marked)])
+
+    def test_a_capture_out_of_order(self):
+        found, _, _ = lines(turned(Talk().open().echo().close()).save(self.folder))
+        self.assertEqual([line["captured"] for line in found if line["kind"] == "no answer"], ["SYN,ACK stands before its SYN: the capture is out of order"])
 
     def test_gaps_make_unjudged(self):
         """Where the capture lacks a text, a late acknowledgement breaks no MUST: the one that was in time may be missing too."""
