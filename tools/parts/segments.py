@@ -70,13 +70,14 @@ def option_text(kind, held):
 def copies(segments):
     """The segments that the capture holds a second time, and in words why: the same datagram but for what a router changes.
 
-    The identification may be 0 of all datagrams (RFC 6864, 4.1). Then two of one time are taken for one where they have text or SYN, which no timer sends again so soon.
+    A host may give all datagrams one identification (RFC 6864, 4.1). Then two of one time are taken for one where they have text or SYN, which no timer
+    sends again so soon.
     """
-    seen = {}
+    seen, told = {}, len({s.datagram[4:6] for s in segments} - {b"\0\0"}) > 1
     for s in segments:
         ip = s.datagram[:2] + s.datagram[4:8] + s.datagram[12:]
         before, seen[ip] = seen.get(ip), s.at
-        if before is not None and s.datagram[4:6] != b"\0\0":
+        if before is not None and told and s.datagram[4:6] != b"\0\0":
             yield s, "the same datagram"
         elif before is not None and s.at - before < SOON and (s.length or s.has(SYN)):
             yield s, f"the same bytes {seconds(s.at - before)} later, without an identification"

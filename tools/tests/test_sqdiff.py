@@ -966,9 +966,11 @@ class Shapes(unittest.TestCase):
 
     def test_alike_is_not_the_same(self):
         """Without an identification two resets are two, and two texts of about one time have the same bytes, which may be one datagram."""
-        talk = Talk().open().echo().down(RST, wait=10).down(RST, seq=6, wait=34)
-        found, _, _ = lines(talk.save(self.folder, "resets.pcap"))
-        self.assertEqual([(line["kind"], line["captured"]) for line in found], [("reset", "2 times"), ("state at the end", "LISTEN")])
+        for number in (0, 54_321):              # of all
+            talk = Talk().up(SYN, options=MSS).down(SYN | ACK, options=MSS, number=number).up().echo(number=number).down(RST, wait=10, number=number).down(
+                RST, seq=6, wait=34, number=number)
+            found, _, _ = lines(talk.save(self.folder, "resets.pcap"))
+            self.assertEqual([(line["kind"], line["captured"]) for line in found], [("reset", "2 times"), ("state at the end", "LISTEN")])
         talk = Talk().open().up(ACK | PSH, b"hello").down(ACK | PSH, b"hello").down(ACK | PSH, b"hello", seq=1, wait=34).up()
         found, _, _ = lines(talk.save(self.folder, "texts.pcap"))
         self.assertEqual([(line["kind"], line["captured"]) for line in found], [("captured twice", "the same bytes 34 µs later, without an identification")])

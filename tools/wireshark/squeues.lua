@@ -18,8 +18,9 @@ local fields = {
     captured = ProtoField.string("squeues.captured", "Captured"),
     sqrun = ProtoField.string("squeues.sqrun", "Reference (sqrun)"),
     allowed = ProtoField.string("squeues.allowed", "Allowed"),
+    why = ProtoField.string("squeues.why", "Unjudged, since"),
 }
-local order = { "verdict", "kind", "section", "side", "captured", "sqrun", "allowed" }
+local order = { "verdict", "kind", "section", "side", "captured", "sqrun", "allowed", "why" }
 local severities = {
     MUST = ProtoExpert.new("squeues.must", "A MUST is broken", expert.group.PROTOCOL, expert.severity.ERROR),
     SHOULD = ProtoExpert.new("squeues.should", "A SHOULD isn't followed", expert.group.PROTOCOL, expert.severity.WARN),
@@ -147,7 +148,7 @@ function squeues.dissector(buffer, pinfo, tree)
         else
             local branch = tree:add(squeues, buffer(0, 0), "sqdiff: " .. line.verdict .. ": " .. line.kind .. " [" .. line.section .. "]")
             for _, name in ipairs(order) do
-                if line[name] ~= "" then branch:add(fields[name], buffer(0, 0), line[name]):set_generated() end
+                if (line[name] or "") ~= "" then branch:add(fields[name], buffer(0, 0), line[name]):set_generated() end
             end
             branch:set_generated()
             if severities[line.verdict] then branch:add_proto_expert_info(severities[line.verdict], line.kind .. ": " .. line.captured) end
