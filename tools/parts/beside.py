@@ -125,7 +125,7 @@ def difference_rows(one):
     for d in sorted(one.differences, key=lambda d: VERDICTS.index(d.verdict)):
         kind = KINDS[d.kind]
         frames = ", ".join(map(str, d.frames)) + (" .." if d.count > len(d.frames) > 0 else "")
-        out.append(f'<tr><td class="verdict {d.verdict}">{d.verdict}<td>{escape(d.kind)}<td class="long">{escape(d.captured)}'
+        out.append(f'<tr><td class="verdict {d.verdict}">{d.verdict}<td>{escape(d.kind)}<td class="long">{escape(d.captured + f"; unjudged, since {d.why}" * bool(d.why))}'
                    f'<td class="long">{escape(f"allowed: {allowed(d)}" if allowed(d) else of_sqrun(one, d))}<td class="n">{d.count:,}<td>{frames}<td class="section">{escape(kind.section)}')
     return "".join(out)
 

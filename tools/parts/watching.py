@@ -506,7 +506,7 @@ class Outgoing:
         if ack > past.edge:
             (self.past_surely if past.refused > 1 and past.again else self.past_perhaps).extend(past.texts)
             self.past = None
-        elif ack >= self.heard_ack and edge < past.end and s.at - past.at >= self.shake.back:
+        elif ack >= self.heard_ack and past.end - edge >= 1 << self.shake.client_shift and s.at - past.at >= self.shake.back:     # a scaled window is rounded
             past.refused += 1
 
     def note_closed(self, s, ack, now):
