@@ -22,8 +22,6 @@ FULL = (errno.ENOSPC, errno.EDQUOT, errno.EFBIG)
 
 def begin():
     """To be called first: told to stop, a tool removes what it has half written; and a standard end that is closed is never another file."""
-    if signal.getsignal(signal.SIGINT) is signal.SIG_DFL:
-        signal.signal(signal.SIGINT, signal.default_int_handler)
     for asks in (signal.SIGTERM, signal.SIGHUP):
         if signal.getsignal(asks) is signal.SIG_DFL:
             signal.signal(asks, lambda number, _: sys.exit(128 + number))
@@ -33,6 +31,12 @@ def begin():
         except OSError:
             os.open(os.devnull, os.O_RDONLY)
     sys.stderr = sys.stderr or open(os.devnull, "w", encoding="utf-8")
+
+
+def at_work():
+    """To be called where Control-C is caught: until then it ends a tool without a word."""
+    if signal.getsignal(signal.SIGINT) is signal.SIG_DFL:
+        signal.signal(signal.SIGINT, signal.default_int_handler)
 
 
 def shown(path):
