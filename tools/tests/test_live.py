@@ -884,6 +884,15 @@ class OnADevice(unittest.TestCase):
             done = subprocess.run([*self.WORDS, "--program", none], capture_output=True, text=True)
         self.assertEqual((done.returncode, done.stderr), (1, f"sqlive: {none} can't be started: Exec format error\n"))
 
+    def assert_told(self, **wanted):
+        """`status` tells this, or does so soon."""
+        for _ in range(100):
+            facts = status.facts_of("test0") or {}
+            if wanted.items() <= facts.items():
+                return
+            time.sleep(0.1)
+        self.fail(f"{wanted} isn't told, but {facts}")
+
     def order(self, text, port):
         """An order from a port of the host."""
         with socket.socket(socket.AF_INET, socket.SOCK_DGRAM) as host:
@@ -905,8 +914,7 @@ class OnADevice(unittest.TestCase):
             with self.echo():
                 pass
             self.echo()
-            time.sleep(0.5)
-            self.assertEqual(status.facts_of("test0")["unlogged"], "1")
+            self.assert_told(unlogged="1")
             launcher.terminate()
             self.assertEqual(self.ended(launcher), (1, ["sqlive: the log can't be written: File too large", "sqlive: the log lacks 2 lines"]))
 
@@ -915,8 +923,7 @@ class OnADevice(unittest.TestCase):
         launcher = self.start("--grace", "1")
         for text, port in ((b"counts", 900), (b"drain", 2000), (b"drains", 900), (b"drain", 900), (b"drain", 901)):
             self.order(text, port)
-        time.sleep(0.3)
-        self.assertEqual(status.facts_of("test0")["draining"], "1")
+        self.assert_told(draining="1")
         launcher.terminate()
         self.assertEqual(self.ended(launcher), (0, ["sqlive: 10.9.0.1 port 900 told the server to drain, and this launcher didn't"]))
         launcher = self.start("--grace", "1")
