@@ -34,4 +34,5 @@ pub mod DrainLemmas
 pub mod HostLemmas
 pub mod CountsLemmas
 pub mod TimingLemmas
+pub mod RoundTripLemmas
 pub mod UrgentLemmas

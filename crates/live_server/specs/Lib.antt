@@ -21,6 +21,7 @@ pub mod Serving
 pub mod Written
 pub mod Isolation
 pub mod Promises
+pub mod RoundTrips
 pub mod Draining
 pub mod Frames
 pub mod Told

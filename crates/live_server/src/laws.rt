@@ -13,6 +13,7 @@ ghost use Rattle.live_server.specs.Promises.{SilenceIsNarrow, SlowStartIsSlow, T
 ghost use Rattle.live_server.specs.Promises.{MarkingStays, PathKeepsMarking};
 ghost use Rattle.live_server.specs.Promises.{TickKeepsOrder, TightHoldsOrder, TimeKeepsShort, TimeoutIsWide};
 ghost use Rattle.live_server.specs.Promises.{SegmentRaisesNone, TimeRaisesNone, UnflaggedSaysNothing, UrgentAdvances};
+ghost use Rattle.live_server.specs.RoundTrips.{SamplesAreOfOnce, TimeoutsFollow};
 
 /// Each connection stands once in the table, and there are no more than there are places.
 pub fn the_table_is_bounded()
@@ -193,4 +194,14 @@ pub fn what_is_marked_is_read()
 pub fn a_marking_stays()
     ensures comes { MarkingStays }
     ensures path { PathKeepsMarking }
+{}
+
+/// Whatever came to a connection, RTO is what its round trips give, doubled for each time that the timer expired since the last one (RFC 6298, 2 and 5).
+pub fn timeouts_follow_round_trips()
+    ensures { TimeoutsFollow }
+{}
+
+/// A round trip is measured of what was sent the first time, and only while nothing is sent again (RFC 6298, 3: Karn's algorithm).
+pub fn no_round_trip_is_of_what_was_sent_twice()
+    ensures { SamplesAreOfOnce }
 {}

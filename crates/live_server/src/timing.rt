@@ -60,6 +60,7 @@ pub struct Mark {
 }
 
 impl Mark {
+    /// What the timeout follows of a block, as it is now.
     pub fn of(tcb: &Tcb) -> Mark
         ensures { result ≡ mark_of tcb.now }
     {
