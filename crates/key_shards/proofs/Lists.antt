@@ -27,7 +27,6 @@ module _ {T : Type 0} where
       no true is = absurd (other (eqb-true j k is))
       no false is = refl
 
-
 -- one item more
 pub takes_more : {T S : Type 0} (step : S → T → S → Type 0) (from at to : S) (xs : List T) (x : T) → Takes step from xs at → step at x to → Takes step from (xs ++ x ∷ []) to
 takes_more {T} {S} step from at to [] x is one = (to, subst (λ (s : S). step s x to) is one, refl)

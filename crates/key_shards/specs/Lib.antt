@@ -1,4 +1,5 @@
 pub mod Arriving
+pub mod Batching
 pub mod Logging
 pub mod States
 pub mod Answering

@@ -4,6 +4,10 @@ use Rattle.std.specs.HashMap.{HashMap, get}
 use Rattle.key_shards.specs.Arriving.{IsMadeOf}
 use Rattle.key_shards.specs.Logging.{of_key}
 
+-- a step by an item with what it is answered
+abbrev pub ByAnswer : {W S T A : Type 0} → (W → S → T → A → S → Type 0) → W → S → T × A → S → Type 0
+ByAnswer step w s e t = step w s e.0 e.1 t
+
 module _ {W T S : Type 0} (begins : W → S → Type 0) (step : W → S → T → S → Type 0) (work : W) where
   -- a key's state is made of these items, of which there are some; and where it has none no item came
   abbrev pub IsStateOf : List T → Option S → Type 0

@@ -6,6 +6,6 @@ mod keyed;
 mod one;
 mod steps;
 
-pub use batch::{Batch, Reply};
+pub use batch::{Batch, Cause, Refused, Reply};
 pub use keyed::Keyed;
 pub use steps::KeyAnswers;

@@ -1,10 +1,10 @@
 //! How a key takes an item, and how all items of a batch are taken.
 ghost use Rattle.std.specs.Prelude.{◌≡◌, ◌≤◌, ◌+◌, ◌∷◌, [], ◌++◌, ℕ, List, None, nat_eq, reverse, length, vec_capacity};
 ghost use Rattle.std.specs.HashMap.{get};
-ghost use Rattle.key_shards.specs.States.{AreMade};
-ghost use Rattle.key_shards.specs.Answering.{Takes, tagged, taken_of};
+ghost use Rattle.key_shards.specs.States.{AreMade, ByAnswer};
+ghost use Rattle.key_shards.specs.Answering.{AreRepliesOf, Takes, tagged, taken_of};
 
-use crate::batch::Reply;
+use crate::batch::{Cause, Refused, Reply};
 use crate::steps::KeyAnswers;
 use std::alloc::Global;
 use std::collections::HashMap;
@@ -21,10 +21,10 @@ pub(crate) fn take_all<X: KeyAnswers>(
     requires none { replies.old.items ≡ [] }
     requires room { length items.old.items ≤ vec_capacity replies.old }
     ensures items { items.new.items ≡ [] }
-    ensures taken { (p : ℕ) (log : List (ℕ × (ℕ × (X.Item × X.Answer)))) → AreMade X.begins X.step steps.now log map.old
-        → AreMade X.begins X.step steps.now (log ++ tagged p (taken_of (reverse items.old.items) replies.new.items)) map.new }
+    ensures taken { (p : ℕ) (log : List (ℕ × (ℕ × (X.Item × X.Answer)))) → AreMade X.begins (ByAnswer X.step) steps.now log map.old
+        → AreMade X.begins (ByAnswer X.step) steps.now (log ++ tagged p (taken_of (reverse items.old.items) replies.new.items)) map.new }
     ensures kept { vec_capacity replies.new ≡ vec_capacity replies.old }
-    ensures many { length replies.new.items ≡ length items.old.items }
+    ensures replied { AreRepliesOf (reverse items.old.items) replies.new.items }
 {
     'items: while let Some((key, item)) = items.pop() {
         let reply = take_one(steps, map, most, alloc, key, item);
@@ -41,13 +41,14 @@ fn take_one<X: KeyAnswers>(
     key: u64,
     item: X::Item,
 ) -> Reply<X::Item, X::Answer>
-    ensures { Takes X.begins X.step steps.now key item result map.old map.new }
+    ensures { Takes X.begins X.step steps.now most key item result map.old map.new }
 {
     if let Some(state) = map.get_mut(&key) {
         return Reply::Taken(steps.take(alloc, state, item));
     }
     if map.len() >= most {
-        return Reply::Refused(item);
+        let cause = Cause::NoPlace;
+        return Reply::Refused(Refused { key, item, cause });
     }
     take_new(steps, map, alloc, key, item)
 }
@@ -61,13 +62,14 @@ fn take_new<X: KeyAnswers>(
     item: X::Item,
 ) -> Reply<X::Item, X::Answer>
     requires new { get nat_eq map.old key ≡ None }
-    ensures { Takes X.begins X.step steps.now key item result map.old map.new }
+    ensures { (most : ℕ) → Takes X.begins X.step steps.now most key item result map.old map.new }
 {
+    let cause = Cause::NoMemory;
     if map.reserve(1).is_err() {
-        return Reply::Refused(item);
+        return Reply::Refused(Refused { key, item, cause });
     }
     let Ok(mut state) = steps.begin(alloc) else {
-        return Reply::Refused(item);
+        return Reply::Refused(Refused { key, item, cause });
     };
     let answer = steps.take(alloc, &mut state, item);
     let Ok(_) = map.insert(key, state) else {

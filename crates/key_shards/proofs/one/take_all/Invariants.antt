@@ -1,7 +1,7 @@
 use Rattle.std.proofs.Common.{◌≡◌, ℕ, List, ◌++◌, length}
 use Rattle.std.specs.Prelude.{reverse, vec_capacity, ◌+◌, ◌≤◌}
-use Rattle.key_shards.specs.States.{AreMade}
-use Rattle.key_shards.specs.Answering.{tagged, taken_of}
+use Rattle.key_shards.specs.States.{AreMade, ByAnswer}
+use Rattle.key_shards.specs.Answering.{AreRepliesOf, tagged, taken_of}
 use Rattle.key_shards.proofs.one.take_all.Given as goal
 
 -- these are taken, and those are left
@@ -12,8 +12,9 @@ invariant-items g l =
     × (length done ≡ length l.replies.items)
     × (vec_capacity l.replies ≡ vec_capacity l.initial.replies)
     × (length l.initial.items.items ≤ vec_capacity l.initial.replies)
-    × ((p : ℕ) (log : List (ℕ × (ℕ × (g.row.X-Item.Denot × g.row.X-Answer.Denot)))) → AreMade g.X.KeyAnswers.begins g.X.KeyAnswers.step l.steps log l.initial.map
-    → AreMade g.X.KeyAnswers.begins g.X.KeyAnswers.step l.steps (log ++ tagged p (taken_of done l.replies.items)) l.map)
+    × ((p : ℕ) (log : List (ℕ × (ℕ × (g.row.X-Item.Denot × g.row.X-Answer.Denot)))) → AreMade g.X.KeyAnswers.begins (ByAnswer g.X.KeyAnswers.step) l.steps log l.initial.map
+    → AreMade g.X.KeyAnswers.begins (ByAnswer g.X.KeyAnswers.step) l.steps (log ++ tagged p (taken_of done l.replies.items)) l.map)
+    × AreRepliesOf done l.replies.items
 
 abbrev pub decreases-items : goal.decreases-items
 decreases-items g l = goal.left-items g l

@@ -1,0 +1,13 @@
+pub mod Channelling
+pub mod Front
+pub mod Getting
+pub mod Giving
+pub mod Iterating
+pub mod Keeping
+pub mod Listing
+pub mod Piping
+pub mod Placing
+pub mod Pooling
+pub mod Serving
+pub mod Told
+pub mod Viewing
