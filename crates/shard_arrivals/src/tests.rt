@@ -1,6 +1,4 @@
 //! Sources of all kinds, over several squeues.
-#![cfg(test)]
-
 mod answers;
 mod refusals;
 mod sums;
