@@ -1,4 +1,5 @@
 pub mod Channelling
+pub mod Coming
 pub mod Front
 pub mod Getting
 pub mod Giving

@@ -1,6 +1,8 @@
 //! Sources over several squeues, at which they share what is made of each key.
-ghost use Rattle.std.specs.Prelude.{◌≡◌, ◌≤◌, IfOk, length};
+ghost use Rattle.std.specs.Prelude.{◌≡◌, ◌+◌, ◌≤◌, IfOk, length, max};
+ghost use Rattle.shard_arrivals.specs.Coming.{IsAnsweredSource, IsServedSource};
 ghost use Rattle.shard_arrivals.specs.Pooling.{IsInRange};
+ghost use Rattle.shard_arrivals.specs.Serving.{AreServed, AreWatched, Unanswering};
 
 use crate::parts::{Served, answered_of, ends_of, most_out, serve_with, served_of};
 use crate::pool::ArrivalPool;
@@ -38,7 +40,8 @@ where
     X::State: Send,
     requires pool { IsInRange pool.now }
     requires sources { length sources.items ≤ 63 }
-    ensures squeues { IfOk result (λ r. length r.squeues.items ≡ pool.now.squeues) }
+    ensures { IfOk result (λ r. AreServed X.begins (Unanswering X.step) steps (IsServedSource A.origin A.given A.is_over) pool.now
+        (max 1 (length sources.items)) sources.items r.sources.items r.keys r.squeues.items) }
 {
     let room = Vec::with_capacity(alloc, pool.squeues as usize)?;
     let last = Vec::with_capacity(alloc, sources.len())?;
@@ -77,7 +80,8 @@ where
     V::Seen: Send,
     requires pool { IsInRange pool.now }
     requires sources { length sources.items ≤ 62 }
-    ensures squeues { IfOk result (λ r. length r.squeues.items ≡ pool.now.squeues) }
+    ensures { IfOk result (λ r. AreWatched X.begins (Unanswering X.step) steps (IsServedSource A.origin A.given A.is_over) (V.says watcher.now)
+        (V.many watcher.now) pool.now sources.items r.sources.items r.keys r.squeues.items) }
 {
     let last = Vec::with_capacity(alloc, sources.len())?;
     let sources = with_refusals(alloc, pool, sources)?;
@@ -114,7 +118,8 @@ where
     X::Answer: Send,
     requires pool { IsInRange pool.now }
     requires sources { length sources.items ≤ 63 }
-    ensures squeues { IfOk result (λ r. length r.squeues.items ≡ pool.now.squeues) }
+    ensures { IfOk result (λ r. AreServed X.begins X.step steps (IsAnsweredSource A.origin A.given A.is_over K.got) pool.now
+        (max 1 (length sources.items)) sources.items r.sources.items r.keys r.squeues.items) }
 {
     let room = Vec::with_capacity(alloc, pool.squeues as usize)?;
     let last = Vec::with_capacity(alloc, sources.len())?;

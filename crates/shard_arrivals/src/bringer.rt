@@ -36,7 +36,11 @@ impl<
 
     ghost did = { λ before sent back after. Unit {0} };
 
-    fn bring<L: Lanes<Parcel = Parcel<A::Item, Y, V::Seen>>>(&mut self, alloc: Global, lanes: &mut L) {
+    fn bring<L: Lanes<Parcel = Parcel<A::Item, Y, V::Seen>>>(
+        &mut self,
+        alloc: Global,
+        lanes: &mut L,
+    ) {
         match self {
             Bringer::Source(bringing) => bringing.bring_all(alloc, lanes),
             Bringer::Look(looking) => looking.look_all(alloc, lanes),

@@ -28,11 +28,7 @@ pub(crate) struct Out<T: Drop, A: Drop, Z: Drop> {
 
 impl<T: Drop, A: Drop, Z: Drop> Out<T, A, Z> {
     /// So many batches with room for so many items. Fails only for want of memory.
-    pub(crate) fn of(
-        alloc: Global,
-        batches: u32,
-        batch: u32,
-    ) -> Result<Out<T, A, Z>, AllocError> {
+    pub(crate) fn of(alloc: Global, batches: u32, batch: u32) -> Result<Out<T, A, Z>, AllocError> {
         let mut spare = Vec::with_capacity(alloc, batches as usize)?;
         'batches: for _ in 0..batches {
             spare.push_reserved(Parcel::of(alloc, batch as usize)?);
@@ -88,7 +84,14 @@ pub(crate) struct Bringing<'a, A: Arrivals + Drop, Y: Drop, K: Drop, Z: Drop, W:
     pub(crate) asked: u32,
 }
 
-impl<'a, A: Arrivals + Drop, Y: Drop, K: TakesReplies<A::Item, Y> + Drop, Z: Drop, W: Wait> Bringing<'a, A, Y, K, Z, W> {
+impl<
+    'a,
+    A: Arrivals + Drop,
+    Y: Drop,
+    K: TakesReplies<A::Item, Y> + Drop,
+    Z: Drop,
+    W: Wait,
+> Bringing<'a, A, Y, K, Z, W> {
     /// Brings all items of the source, to its end or until it is stopped, and hands on what came of each.
     pub(crate) fn bring_all<L: Lanes<Parcel = Parcel<A::Item, Y, Z>>>(
         &mut self,

@@ -45,7 +45,9 @@ struct Room<A: Drop, K: Drop, S: Drop, Z: Drop> {
 /// How many items of a source may be on their way at once. A number that has no room is want of memory.
 pub(crate) fn most_out(pool: &ArrivalPool) -> Result<usize, AllocError> {
     let batches = u64::from(pool.squeues) * u64::from(pool.batches);
-    let most = batches.checked_mul(u64::from(pool.batch)).ok_or(AllocError)?;
+    let most = batches
+        .checked_mul(u64::from(pool.batch))
+        .ok_or(AllocError)?;
     if most > 1 << 48 {
         return Err(AllocError);
     }

@@ -6,7 +6,7 @@ ghost use Rattle.std.specs.Prelude.{◌≡◌, ◌<◌, Option, ℕ, length, nat
 ghost use Rattle.std.specs.HashMap.{get};
 
 use crate::parcel::Parcel;
-use key_shards::{Keyed, KeyAnswers};
+use key_shards::{KeyAnswers, Keyed};
 use shard_rings::Lanes;
 use shards::Shared;
 use squeue_state::Ended;
@@ -85,26 +85,22 @@ pub(crate) struct Viewed<'v, X: KeyAnswers + Drop, V: Watches<X::State>> {
 }
 
 impl<'v, X: KeyAnswers + Drop, V: Watches<X::State>> Shared for Viewed<'v, X, V> {
+    ghost use Rattle.key_shards.specs.Keying.{steps_of};
+    ghost use Rattle.shard_arrivals.specs.Viewing.{IsViewed};
 
     type Parcel = Parcel<X::Item, X::Answer, V::Seen>;
 
     type Origin = (X, &'v V);
 
-    ghost origin = { λ s. (s.keyed.steps, s.watcher) };
+    ghost origin = { λ s. (steps_of s.keyed, s.watcher) };
 
-    ghost is_made = { λ log s. Unit {0} };
+    ghost is_made = { λ log s. IsViewed X.begins X.step (V.says s.watcher.now) log s.keyed };
 
-    fn take(
-        &mut self,
-        alloc: Global,
-        ring: u32,
-        parcel: &mut Parcel<X::Item, X::Answer, V::Seen>,
-    ) {
+    fn take(&mut self, alloc: Global, ring: u32, parcel: &mut Parcel<X::Item, X::Answer, V::Seen>) {
         if parcel.batch.len() == 0 {
             parcel.seen = Some(self.watcher.read(self.keyed.states()));
-        } else {
-            self.keyed.take(alloc, ring, &mut parcel.batch);
         }
+        self.keyed.take(alloc, ring, &mut parcel.batch);
     }
 }
 

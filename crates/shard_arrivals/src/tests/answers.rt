@@ -1,6 +1,6 @@
 //! Items that are answered.
 use crate::tests::sums::pool_of;
-use crate::{Cause, Channelled, KeyAnswers, Kept, Listed, Sent, serve_answering};
+use crate::{Cause, Channelled, Kept, KeyAnswers, Listed, Sent, serve_answering};
 use crossbeam_channel::{Receiver, Sender, bounded};
 use squeue_enter::Mode;
 use std::alloc::{AllocError, Global};
@@ -127,9 +127,7 @@ fn questions_wait_for_answers(rt: HostRuntime) -> Result<(), Fail> {
     for (squeues, mode) in [(2, Mode::Process), (2, Mode::Fill), (1, Mode::NoDrain)] {
         let (output, input) = bounded(alloc, 4)?;
         let (to_sink, answers) = bounded(alloc, 4)?;
-        let sources = vec![in alloc;
-            (Channelled::of(&rt, input), Sent::of(&rt, to_sink)),
-        ]?;
+        let sources = vec![in alloc; (Channelled::of(&rt, input), Sent::of(&rt, to_sink))]?;
         let pool = pool_of(squeues, 8, mode);
         let (served, ()) = join(
             &rt,
