@@ -1,2 +1,4 @@
 mod Fronts
+mod Looks
 mod Runs
+mod Told

@@ -16,6 +16,12 @@ use Rattle.shard_arrivals.specs.Placing.{squeue_at}
 abbrev pub Came : Type 0 → Type 0 → Type 0
 Came T A = (ℕ × T) × Reply T A
 
+-- whether an item that was refused for this was sent: it wasn't, where its source's life was over
+abbrev pub is_sent_by : Cause → Bool
+is_sent_by Cause'.NoPlace = true
+is_sent_by Cause'.NoMemory = true
+is_sent_by Cause'.LifeIsOver = false
+
 module _ {T A : Type 0} where
   -- the items with their keys, and what came of each
   abbrev pub items_of : List (Came T A) → List (ℕ × T)
@@ -29,23 +35,21 @@ module _ {T A : Type 0} where
   taken_for k all = items_for k (taken_of (items_of all) (replies_of all))
 
   -- those that were refused
-  pub refused_of : List (Reply T A) → List (Refusal T)
+  abbrev pub refused_of : List (Reply T A) → List (Refusal T)
   refused_of [] = []
   refused_of (Taken a ∷ rs) = refused_of rs
   refused_of (Refused r ∷ rs) = r ∷ refused_of rs
 
+  abbrev pub was_refused : Reply T A → Bool
+  was_refused (Taken a) = false
+  was_refused (Refused r) = true
+
   -- what a sink is told
-  pub as_result : Reply T A → Result A Cause
+  abbrev pub as_result : Reply T A → Result A Cause
   as_result (Taken a) = Ok a
   as_result (Refused r) = Err r.cause
 
-  -- whether the item was sent: it wasn't, where its source's life was over
-  pub is_sent_by : Cause → Bool
-  is_sent_by Cause'.NoPlace = true
-  is_sent_by Cause'.NoMemory = true
-  is_sent_by Cause'.LifeIsOver = false
-
-  pub was_sent : Reply T A → Bool
+  abbrev pub was_sent : Reply T A → Bool
   was_sent (Taken a) = true
   was_sent (Refused r) = is_sent_by r.cause
 
@@ -69,5 +73,5 @@ module _ {T A : Type 0} where
     -- its sink got what came of each, in their order; where all were sent the source is over
     pub record IsAnsweredSource {K : Type 0} (got : K → List (Result A Cause)) (all : List (Came T A)) (source : X × K) (left : AnsweredSource X K) : Type 0 where
       pub gave : HasGiven all source.0 left.source
-      pub got : got left.sink ≡ got source.1 ++ map as_result (replies_of all)
+      pub told : got left.sink ≡ got source.1 ++ map as_result (replies_of all)
       pub over : AllByRecursion (λ r. was_sent r ≡ true) (replies_of all) → is_over left.source

@@ -9,6 +9,7 @@ pub mod Listing
 pub mod Piping
 pub mod Placing
 pub mod Pooling
+pub mod Replying
 pub mod Serving
 pub mod Told
 pub mod Viewing

@@ -24,11 +24,11 @@ Unanswering step w s x a t = step w s x t
 
 module _ {S H : Type 0} where
   -- what is in a map at a key, and how many keys it has
-  pub state_in : Option (HashMap ℕ S H) → ℕ → Option S
+  abbrev pub state_in : Option (HashMap ℕ S H) → ℕ → Option S
   state_in None k = None
   state_in (Some m) k = get nat_eq m k
 
-  pub keys_in : Option (HashMap ℕ S H) → ℕ
+  abbrev pub keys_in : Option (HashMap ℕ S H) → ℕ
   keys_in None = 0
   keys_in (Some m) = hash_map_len m
 
@@ -61,7 +61,7 @@ module _ {T A : Type 0} where
       pub made : IsStateOf begins (ByAnswer step) work (map (λ e. e.1) mix) state
 
     -- for an item that was refused for want of room, there is no room for its key
-    pub HasNoPlace : ArrivalPool → Keys S → Came T A → Type 0
+    abbrev pub HasNoPlace : ArrivalPool → Keys S → Came T A → Type 0
     HasNoPlace pool keys (e, Taken a) = Unit {0}
     HasNoPlace pool keys (e, Refused r) = r.cause ≡ Cause'.NoPlace → (state_at keys e.0 ≡ None) × (pool.keys ≤ keys_beside keys e.0)
 

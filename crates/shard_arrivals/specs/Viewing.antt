@@ -25,7 +25,7 @@ module _ {T A Z : Type 0} where
     abbrev pub IsLook : X → List (ℕ × (Parcel T A Z × Parcel T A Z)) → ℕ × (Parcel T A Z × Parcel T A Z) → Type 0
     IsLook work before e = items_in e.1.0.batch ≡ [] → (seen : Z) × (e.1.1.seen ≡ Some seen) × IsSeen work before seen
 
-    pub AreLooks : X → List (ℕ × (Parcel T A Z × Parcel T A Z)) → List (ℕ × (Parcel T A Z × Parcel T A Z)) → Type 0
+    abbrev pub AreLooks : X → List (ℕ × (Parcel T A Z × Parcel T A Z)) → List (ℕ × (Parcel T A Z × Parcel T A Z)) → Type 0
     AreLooks work before [] = Unit {0}
     AreLooks work before (e ∷ log) = IsLook work before e × AreLooks work (before ++ e ∷ []) log
 

@@ -148,21 +148,21 @@ fn with_refusals<A: Arrivals + Drop>(
     sources.reverse();
     'sources: while let Some(source) = sources.pop() {
         let list = Vec::with_capacity(alloc, most + 1)?;
-        all.push_reserved((source, Refusals { list }));
+        all.push_reserved((source, Refusals::of(list)));
     }
     Ok(all)
 }
 
 // The sources with their sinks.
-fn with_sinks<A: Drop, K: Sink + Drop>(
+fn with_sinks<A: Drop, T: Drop, K: Sink + Drop>(
     alloc: Global,
     sources: Vec<(A, K)>,
-) -> Result<Vec<(A, Answers<K>)>, AllocError> {
+) -> Result<Vec<(A, Answers<T, K>)>, AllocError> {
     let mut sources = sources;
     let mut all = Vec::with_capacity(alloc, sources.len())?;
     sources.reverse();
     'sources: while let Some((source, sink)) = sources.pop() {
-        all.push_reserved((source, Answers { sink }));
+        all.push_reserved((source, Answers::of(sink)));
     }
     Ok(all)
 }

@@ -254,7 +254,7 @@ pub(crate) fn served_of<A: Drop, T: Drop>(
     let mut done = done;
     let mut served = room;
     'sources: while let Some(Done { source, replies }) = done.pop() {
-        let refused = replies.list;
+        let refused = replies.into_list();
         served.push_reserved(ServedSource { source, refused });
     }
     served.reverse();
@@ -262,14 +262,14 @@ pub(crate) fn served_of<A: Drop, T: Drop>(
 }
 
 /// What is left of these sources and their sinks.
-pub(crate) fn answered_of<A: Drop, K: Sink + Drop>(
+pub(crate) fn answered_of<A: Drop, T: Drop, K: Sink + Drop>(
     room: Vec<AnsweredSource<A, K>>,
-    done: Vec<Done<A, Answers<K>>>,
+    done: Vec<Done<A, Answers<T, K>>>,
 ) -> Vec<AnsweredSource<A, K>> {
     let mut done = done;
     let mut answered = room;
     'sources: while let Some(Done { source, replies }) = done.pop() {
-        let sink = replies.sink;
+        let sink = replies.into_sink();
         answered.push_reserved(AnsweredSource { source, sink });
     }
     answered.reverse();

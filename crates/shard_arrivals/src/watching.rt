@@ -2,8 +2,9 @@
 //!
 //! Who looks is one ring more at each squeue. Its parcels have no items: the owner of the squeue reads the states when it takes one, so nobody
 //! else has them meanwhile.
-ghost use Rattle.std.specs.Prelude.{◌≡◌, ◌<◌, Option, ℕ, length, nat_eq};
+ghost use Rattle.std.specs.Prelude.{◌≡◌, ◌<◌, [], Option, Some, ℕ, length, nat_eq};
 ghost use Rattle.std.specs.HashMap.{get};
+ghost use Rattle.key_shards.specs.Batching.{items_in};
 
 use crate::parcel::Parcel;
 use key_shards::{KeyAnswers, Keyed};
@@ -97,10 +98,23 @@ impl<'v, X: KeyAnswers + Drop, V: Watches<X::State>> Shared for Viewed<'v, X, V>
     ghost is_made = { λ log s. IsViewed X.begins X.step (V.says s.watcher.now) log s.keyed };
 
     fn take(&mut self, alloc: Global, ring: u32, parcel: &mut Parcel<X::Item, X::Answer, V::Seen>) {
-        if parcel.batch.len() == 0 {
-            parcel.seen = Some(self.watcher.read(self.keyed.states()));
-        }
+        see(self.watcher, self.keyed.states(), parcel);
         self.keyed.take(alloc, ring, &mut parcel.batch);
+    }
+}
+
+// Reads the states, where the parcel is a look.
+fn see<S: Drop, V: Watches<S>, T: Drop, A: Drop>(
+    watcher: &V,
+    states: &HashMap<u64, S>,
+    parcel: &mut Parcel<T, A, V::Seen>,
+)
+    ensures batch { parcel.new.batch ≡ parcel.old.batch }
+    ensures seen { items_in parcel.old.batch ≡ [] → (seen : V.Seen) × (parcel.new.seen ≡ Some seen)
+        × V.says watcher.now (get nat_eq states.now) seen }
+{
+    if parcel.batch.len() == 0 {
+        parcel.seen = Some(watcher.read(states));
     }
 }
 
