@@ -10,7 +10,7 @@ invariant_of-self g c =
     record {
       told =
           c.take.ensures
-          ∙ told_more (g.K.Sink.got was.sink) (g.K.Sink.got was.first.value) (got_by was.heard) (got_by c.and.result) c.args.reply was.told c.and.ensures (ap as_result c.in-Taken.is);
+          ∙ told_more (g.K.Sink.got was.sink) (g.K.Sink.got was.first.value) (got_by was.heard) (got_by c.and.result) c.args.reply _ was.told c.and.ensures (ap as_result c.in-Taken.is);
     }
 
 pub invariant_of-self-in-Refused : goal.invariant_of-self-in-Refused
@@ -19,5 +19,5 @@ invariant_of-self-in-Refused g c =
     record {
       told =
           c.refuse.ensures
-          ∙ told_more (g.K.Sink.got was.sink) (g.K.Sink.got was.first.value) (got_by was.heard) (got_by c.and.result) c.args.reply was.told c.and.ensures (ap as_result c.in-Refused.is);
+          ∙ told_more (g.K.Sink.got was.sink) (g.K.Sink.got was.first.value) (got_by was.heard) (got_by c.and.result) c.args.reply _ was.told c.and.ensures (ap as_result c.in-Refused.is);
     }
