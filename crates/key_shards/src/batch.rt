@@ -33,6 +33,7 @@ pub struct Batch<T: Drop, A: Drop> {
     pub(crate) items: Vec<(u64, T)>,
     pub(crate) replies: Vec<Reply<T, A>>,
     ghost room: { length items.items + length replies.items ≤ vec_capacity replies },
+    ghost some: { (1 ≤ vec_capacity items) × (1 ≤ vec_capacity replies) },
 }
 
 impl<T: Drop, A: Drop> Batch<T, A> {
@@ -40,6 +41,7 @@ impl<T: Drop, A: Drop> Batch<T, A> {
 
     /// No items and no replies, with room for so many. Fails only for want of memory.
     pub fn of(alloc: Global, most: usize) -> Result<Batch<T, A>, AllocError>
+        requires { 1 ≤ most }
         ensures none { IfOk result (λ b. (items_in b ≡ []) × (replies_in b ≡ [])) }
         ensures room { IfOk result (λ b. most ≤ batch_room b) }
     {
@@ -55,9 +57,10 @@ impl<T: Drop, A: Drop> Batch<T, A> {
         self.items.len()
     }
 
-    /// How many items there is room for.
+    /// How many items there is room for, at least 1.
     pub fn room(&self) -> usize
-        ensures { result ≡ batch_room self.now }
+        ensures room { result ≡ batch_room self.now }
+        ensures some { 1 ≤ result }
     {
         self.items.capacity().min(self.replies.capacity())
     }
@@ -72,12 +75,13 @@ impl<T: Drop, A: Drop> Batch<T, A> {
         self.items.push_reserved((key, item));
     }
 
-    /// Turns the replies round, so that [`Batch::pop`] has the first.
+    /// Turns the replies round, so that [`Batch::pop`] has the first, and drops all items.
     pub fn turn(&mut self)
-        ensures items { items_in self.new ≡ items_in self.old }
+        ensures items { items_in self.new ≡ [] }
         ensures replies { replies_in self.new ≡ reverse (replies_in self.old) }
         ensures room { batch_room self.new ≡ batch_room self.old }
     {
+        self.items.clear();
         self.replies.reverse();
     }
 

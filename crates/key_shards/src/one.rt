@@ -23,7 +23,7 @@ pub(crate) fn take_all<X: KeyAnswers>(
     ensures items { items.new.items ≡ [] }
     ensures taken { (p : ℕ) (log : List (ℕ × (ℕ × (X.Item × X.Answer)))) → AreMade X.begins (ByAnswer X.step) steps.now log map.old
         → AreMade X.begins (ByAnswer X.step) steps.now (log ++ tagged p (taken_of (reverse items.old.items) replies.new.items)) map.new }
-    ensures kept { vec_capacity replies.new ≡ vec_capacity replies.old }
+    ensures kept { (vec_capacity items.new ≡ vec_capacity items.old) × (vec_capacity replies.new ≡ vec_capacity replies.old) }
     ensures replied { AreRepliesOf (reverse items.old.items) replies.new.items }
 {
     'items: while let Some((key, item)) = items.pop() {

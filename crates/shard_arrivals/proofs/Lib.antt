@@ -1,4 +1,5 @@
 mod Fronts
 mod Looks
+mod Pieces
 mod Runs
 mod Told

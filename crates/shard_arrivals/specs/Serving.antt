@@ -73,7 +73,7 @@ module _ {T A : Type 0} where
       pub many : (length all ≡ length sources) × (length left ≡ length sources)
       pub gave : (p : ℕ) (its : List (Came T A)) (a : X) (b : Y) → slice_get all p ≡ Some its → slice_get sources p ≡ Some a → slice_get left p ≡ Some b
           → Gives its a b
-      pub keys : (k : ℕ) → IsMerged (map (taken_for k) all) (state_at keys k)
+      pub made : (k : ℕ) → IsMerged (map (taken_for k) all) (state_at keys k)
       pub full : AllByRecursion (AllByRecursion (HasNoPlace pool keys)) all
       pub squeues : length ends ≡ pool.squeues
       pub histories : (q : ℕ) (end : Ending) → slice_get ends q ≡ Some end → IsServedIn pool rings all q end

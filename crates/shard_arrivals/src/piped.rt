@@ -1,5 +1,5 @@
 //! A ring as a source: another thread pushes items into it, each with its key, and says when none comes any more.
-ghost use Rattle.std.specs.Prelude.{◌≡◌, []};
+ghost use Rattle.std.specs.Prelude.{◌≡◌, ◌++◌, [], option_to_list};
 ghost use Rattle.rtrb.specs.Ring.{received};
 ghost use Rattle.shard_arrivals.specs.Piping.{end_of, has_ended, items_of};
 
@@ -21,7 +21,6 @@ pub struct Piped<T: Drop> {
     // None, where it was stopped.
     input: Option<Consumer<Piece<T>>>,
     last: Known<Consumer<Piece<T>>>,
-    ended: bool,
     dropped: bool,
 }
 
@@ -34,7 +33,6 @@ impl<T: Drop> Piped<T> {
         Piped {
             input: Some(input),
             last,
-            ended: false,
             dropped: false,
         }
     }
@@ -55,19 +53,12 @@ impl<T: Drop> Arrivals for Piped<T> {
         let Some(input) = &mut self.input else {
             return Arrival::NoneYet;
         };
-        let mut piece = input.pop().ok();
-        if piece.is_none() && input.is_abandoned() {
-            // What was pushed before the other end was dropped is seen now.
-            piece = input.pop().ok();
-            self.dropped = piece.is_none();
-        }
+        let (piece, dropped) = next_piece(input);
+        self.dropped = dropped;
         match piece {
             Some(Piece::Item(key, item)) => Arrival::Item(key, item),
-            Some(Piece::End) => {
-                self.ended = true;
-                Arrival::End
-            }
-            None if self.dropped => Arrival::End,
+            Some(Piece::End) => Arrival::End,
+            None if dropped => Arrival::End,
             None => Arrival::NoneYet,
         }
     }
@@ -77,5 +68,22 @@ impl<T: Drop> Arrivals for Piped<T> {
             self.last = Known::of(input);
         }
         self.input = None;
+    }
+}
+
+// The next piece, if there is one, and whether none comes any more since the other end was dropped.
+fn next_piece<T: Drop>(input: &mut Consumer<Piece<T>>) -> (Option<Piece<T>>, bool)
+    ensures { received input.new ≡ received input.old ++ option_to_list result.0 }
+{
+    if let Ok(piece) = input.pop() {
+        return (Some(piece), false);
+    }
+    if !input.is_abandoned() {
+        return (None, false);
+    }
+    // What was pushed before the other end was dropped is seen now.
+    match input.pop() {
+        Ok(piece) => (Some(piece), false),
+        Err(_) => (None, true),
     }
 }

@@ -1,5 +1,5 @@
 //! What is handed back of sources, of keys, and of the squeues.
-ghost use Rattle.std.specs.Prelude.{◌≡◌, option_map};
+ghost use Rattle.std.specs.Prelude.{◌≡◌, ◌<◌, ◌≤◌, ◌^◌, length, option_map};
 
 use crate::placing::squeue_of;
 use crate::watching::WatchedEnd;
@@ -26,6 +26,8 @@ pub struct AnsweredSource<A, K> {
 pub struct Keys<S: Drop> {
     pub(crate) seed: u64,
     pub(crate) maps: Vec<HashMap<u64, S>>,
+    ghost some: { 1 ≤ length maps.items },
+    ghost few: { length maps.items < 2 ^ 32 },
 }
 
 impl<S: Drop> Keys<S> {
@@ -35,11 +37,8 @@ impl<S: Drop> Keys<S> {
     pub fn get(&self, key: u64) -> Option<&S>
         ensures { option_map (λ s. s.now) result ≡ state_at self.now key }
     {
-        let count = self.maps.len();
-        if count == 0 {
-            return None;
-        }
-        self.maps[squeue_of(self.seed, key, count)].get(&key)
+        let q = squeue_of(self.seed, key, self.maps.len());
+        self.maps[q].get(&key)
     }
 
     /// The states, by key, of each squeue. No key is in two.

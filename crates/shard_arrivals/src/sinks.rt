@@ -84,9 +84,7 @@ impl<A: Drop> Sink for Kept<A> {
             return;
         }
         if let Ok(answer) = reply {
-            if self.answers.push(answer).is_err() {
-                self.lost = true;
-            }
+            self.lost = !keep(&mut self.answers, answer);
         }
     }
 
@@ -94,6 +92,13 @@ impl<A: Drop> Sink for Kept<A> {
         self.got = self.got.and(&Err(cause));
         self.refused = self.refused.wrapping_add(1);
     }
+}
+
+// Keeps an answer. Answers whether there was memory for it.
+fn keep<A: Drop>(answers: &mut Vec<A>, answer: A) -> bool
+    ensures { result ≡ true → answers.new.items ≡ answers.old.items ++ answer ∷ [] }
+{
+    answers.push(answer).is_ok()
 }
 
 /// Sends answers into a channel, and why an item was refused. It waits where the channel is full; once each receiver was dropped they are dropped

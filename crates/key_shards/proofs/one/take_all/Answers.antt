@@ -13,6 +13,7 @@ items-init g c = (
   c.requires.room,
   λ p log made. subst (λ l. AreMade g.X.KeyAnswers.begins (ByAnswer g.X.KeyAnswers.step) c.args.steps.now l c.args.map.now) (sym (append-nil log)) made,
   none_replied c.args.replies.now.items c.requires.none,
+  refl,
 )
 
 pub items-preserved : goal.items-preserved
@@ -36,6 +37,7 @@ items-preserved g c =
       subst (λ rs. AreRepliesOf (i.0 ++ e ∷ []) rs) (sym c.push_reserved.ensures.items)
           (replied_more i.0 c.items.replies.items e c.take_one-reply.result i.6
           (reply_of begins step work c.args.most c.in-Some.key c.in-Some.item c.take_one-reply.result c.items.map c.take_one-reply.new.map c.take_one-reply.ensures)),
+      c.pop.ensures.capacity ∙ i.7,
     )
 
 pub returns-clause-replied : goal.returns-clause-replied

@@ -15,6 +15,7 @@ invariant-items g l =
     × ((p : ℕ) (log : List (ℕ × (ℕ × (g.row.X-Item.Denot × g.row.X-Answer.Denot)))) → AreMade g.X.KeyAnswers.begins (ByAnswer g.X.KeyAnswers.step) l.steps log l.initial.map
     → AreMade g.X.KeyAnswers.begins (ByAnswer g.X.KeyAnswers.step) l.steps (log ++ tagged p (taken_of done l.replies.items)) l.map)
     × AreRepliesOf done l.replies.items
+    × (vec_capacity l.items ≡ vec_capacity l.initial.items)
 
 abbrev pub decreases-items : goal.decreases-items
 decreases-items g l = goal.left-items g l
