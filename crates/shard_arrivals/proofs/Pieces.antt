@@ -1,6 +1,6 @@
 -- One piece or one answer more.
-use Rattle.std.proofs.Common.{◌≡◌, ℕ, List, [], ◌∷◌, ◌++◌, refl, ap, ◌∙◌}
-use Rattle.std.specs.Prelude.{Result, Ok, Err}
+use Rattle.std.proofs.Common.{◌≡◌, ℕ, Bool, true, false, List, [], ◌∷◌, ◌++◌, refl, ap, ◌∙◌}
+use Rattle.std.specs.Prelude.{Result, Ok, Err, not}
 use Rattle.shard_arrivals.specs.declared.piped.Piece.{Piece}
 use Rattle.shard_arrivals.specs.declared.piped.Piece.TheVariants.{Item, End}
 use Rattle.shard_arrivals.specs.Getting.{oks}
@@ -21,3 +21,7 @@ oks_append (Err e ∷ rs) r = oks_append rs r
 
 pub oks_more : {A E : Type 0} (rs more : List (Result A E)) (r : Result A E) → more ≡ rs ++ r ∷ [] → oks more ≡ oks rs ++ oks (r ∷ [])
 oks_more rs more r is = ap oks is ∙ oks_append rs r
+
+pub true_of : (b : Bool) → not b ≡ false → b ≡ true
+true_of true is = refl
+true_of false is = cc is

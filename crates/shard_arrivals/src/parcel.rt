@@ -15,6 +15,7 @@ pub(crate) struct Parcel<T: Drop, A: Drop, Z: Drop> {
 impl<T: Drop, A: Drop, Z: Drop> Parcel<T, A, Z> {
     /// An empty one with room for so many items. Fails only for want of memory.
     pub(crate) fn of(alloc: Global, most: usize) -> Result<Parcel<T, A, Z>, AllocError>
+        requires { 1 ≤ most }
         ensures none { IfOk result (λ p. (items_in p.batch ≡ []) × (replies_in p.batch ≡ []) × (p.seen ≡ None)) }
         ensures room { IfOk result (λ p. most ≤ batch_room p.batch) }
     {

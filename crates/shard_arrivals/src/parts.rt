@@ -168,7 +168,7 @@ fn looking_of<'v, S: Drop, V: Watches<S>, T: Drop, A: Drop>(
     pool: &ArrivalPool,
     watcher: &'v V,
 ) -> Result<Looking<'v, S, V, T, A>, AllocError> {
-    let parcel = Parcel::of(alloc, 0)?;
+    let parcel = Parcel::of(alloc, 1)?;
     let mut looked = Vec::with_capacity(alloc, pool.squeues as usize)?;
     'squeues: for _ in 0..pool.squeues {
         looked.push_reserved(Looked {

@@ -49,6 +49,7 @@ impl<T: Drop> Arrivals for Piped<T> {
 
     ghost is_over = { has_ended };
 
+    #[tactic(auto, using(crate::proofs::Pieces::items_more))]
     fn next(&mut self) -> Arrival<T> {
         let Some(input) = &mut self.input else {
             return Arrival::NoneYet;

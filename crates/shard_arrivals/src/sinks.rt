@@ -77,6 +77,7 @@ impl<A: Drop> Sink for Kept<A> {
 
     ghost got = { kept_of };
 
+    #[tactic(auto, using(crate::proofs::Pieces::oks_more))]
     fn take(&mut self, answer: A) {
         let reply = Ok(answer);
         self.got = self.got.and(&reply);
