@@ -1,5 +1,6 @@
 pub mod Channelling
 pub mod Coming
+pub mod Emptied
 pub mod Filling
 pub mod Front
 pub mod Getting

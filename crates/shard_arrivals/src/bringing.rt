@@ -4,13 +4,14 @@
 //! handed on in the order of the items, so each item's squeue is kept until then. A batch goes round: it is filled, sent, read and spare.
 ghost use Rattle.std.specs.Prelude.{◌≡◌, ◌<◌, length};
 
+use crate::out::Out;
 use crate::parcel::Parcel;
 use crate::placing::squeue_of;
 use crate::replies::TakesReplies;
 use crate::source::{Arrival, Arrivals};
 use key_shards::{Cause, Refused, Reply};
 use shard_rings::Lanes;
-use std::alloc::{AllocError, Global};
+use std::alloc::Global;
 use std::collections::VecDeque;
 use std::sync::Wait;
 use std::thread;
@@ -18,63 +19,13 @@ use std::thread;
 // So many times a source is asked before its ring sees to it that its items are served.
 const PATIENCE: u32 = 64;
 
-/// What a source has of one squeue: the batch that is filled, the one whose replies are handed on, and those without items.
-#[derive(Drop)]
-pub(crate) struct Out<T: Drop, A: Drop, Z: Drop> {
-    filled: Option<Parcel<T, A, Z>>,
-    read: Option<Parcel<T, A, Z>>,
-    spare: Vec<Parcel<T, A, Z>>,
-}
-
-impl<T: Drop, A: Drop, Z: Drop> Out<T, A, Z> {
-    /// So many batches with room for so many items. Fails only for want of memory.
-    pub(crate) fn of(alloc: Global, batches: u32, batch: u32) -> Result<Out<T, A, Z>, AllocError> {
-        let mut spare = Vec::with_capacity(alloc, batches as usize)?;
-        'batches: for _ in 0..batches {
-            spare.push_reserved(Parcel::of(alloc, batch as usize)?);
-        }
-        Ok(Out {
-            filled: None,
-            read: None,
-            spare,
-        })
-    }
-
-    // Puts an item into the batch that is filled. Answers whether that has room for no other.
-    fn put(&mut self, key: u64, item: T) -> bool {
-        let Some(parcel) = &mut self.filled else {
-            return false;
-        };
-        parcel.batch.push(key, item);
-        parcel.batch.len() >= parcel.batch.room()
-    }
-
-    // Takes a batch that is back: its replies are handed on from now on.
-    fn begin_reading(&mut self, parcel: Parcel<T, A, Z>) {
-        let mut parcel = parcel;
-        parcel.batch.turn();
-        self.read = Some(parcel);
-    }
-
-    // The next reply of the batch that is read. Behind its last it is spare.
-    fn next_reply(&mut self) -> Option<Reply<T, A>> {
-        let mut parcel = self.read.take()?;
-        let reply = parcel.batch.pop();
-        if parcel.batch.has_replies() {
-            self.read = Some(parcel);
-        } else {
-            self.spare.push_reserved(parcel);
-        }
-        reply
-    }
-}
-
 /// A source as a ring: where its replies go, the squeues of the items for which none was handed on yet, oldest first, and what it has of each
 /// squeue.
 #[derive(Drop)]
 pub(crate) struct Bringing<'a, A: Arrivals + Drop, Y: Drop, K: Drop, Z: Drop, W: Wait> {
     pub(crate) rt: &'a W,
     pub(crate) seed: u64,
+    pub(crate) most: usize,
     pub(crate) source: A,
     pub(crate) replies: K,
     pub(crate) outs: Vec<Out<A::Item, Y, Z>>,
@@ -156,7 +107,7 @@ impl<
             return;
         }
         self.order.push_back_reserved(q as u32);
-        if self.outs[q].put(key, item) {
+        if self.outs[q].put(key, item, self.most) {
             self.send(alloc, lanes, q);
             self.hand_on_ready(lanes);
         }
@@ -172,15 +123,14 @@ impl<
         requires ready { L.ready lanes.old }
         requires range { q < length (L.sent lanes.old) }
     {
-        if self.outs[q].filled.is_some() {
+        if self.outs[q].is_filling() {
             return true;
         }
         if lanes.left(q) == 0 {
             return false;
         }
         'replies: for _ in self.rt.forever() {
-            if let Some(parcel) = self.outs[q].spare.pop() {
-                self.outs[q].filled = Some(parcel);
+            if self.outs[q].begin_filling() {
                 return true;
             }
             self.hand_on(alloc, lanes);
@@ -221,7 +171,7 @@ impl<
         requires ready { L.ready lanes.old }
         requires range { q < length (L.sent lanes.old) }
     {
-        if let Some(parcel) = self.outs[q].filled.take() {
+        if let Some(parcel) = self.outs[q].take_filled() {
             lanes.send(alloc, q, parcel);
         }
     }
@@ -233,7 +183,7 @@ impl<
         let Some(q) = self.oldest() else {
             return;
         };
-        if self.outs[q].read.is_none() {
+        if !self.outs[q].is_reading() {
             if lanes.out(q) == 0 {
                 self.send(alloc, lanes, q);
             }
@@ -251,7 +201,7 @@ impl<
             let Some(q) = self.oldest() else {
                 return;
             };
-            if self.outs[q].read.is_none() {
+            if !self.outs[q].is_reading() {
                 let Some(parcel) = lanes.try_back(q) else {
                     return;
                 };

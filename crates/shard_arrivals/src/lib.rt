@@ -20,6 +20,7 @@ mod channelled;
 mod given_items;
 mod got_answers;
 mod iterated;
+mod out;
 mod parcel;
 mod parts;
 mod piped;

@@ -3,7 +3,8 @@ ghost use Rattle.std.specs.Prelude.{◌≡◌, ◌≤◌, ◌+◌, IfOk, length}
 ghost use Rattle.shard_arrivals.specs.Pooling.{IsInRange};
 
 use crate::bringer::Bringer;
-use crate::bringing::{Bringing, Out};
+use crate::bringing::Bringing;
+use crate::out::Out;
 use crate::parcel::Parcel;
 use crate::pool::{ArrivalPool, shard_pool};
 use crate::replies::{Answers, Refusals, TakesReplies};
@@ -152,6 +153,7 @@ fn bringing_of<'a, A: Arrivals + Drop, Y: Drop, K: Drop, Z: Drop, W: Wait>(
     Ok(Bringing {
         rt,
         seed: pool.seed,
+        most: pool.batch as usize,
         source,
         replies,
         outs,
