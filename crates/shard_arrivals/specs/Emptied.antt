@@ -9,20 +9,14 @@ module _ {T A Z : Type 0} where
   abbrev pub IsEmptied : Parcel T A Z → Type 0
   IsEmptied p = (items_in p.batch ≡ []) × (replies_in p.batch ≡ [])
 
-  -- a batch that is filled has items alone
-  abbrev pub IsFilled : Option (Parcel T A Z) → Type 0
-  IsFilled None = Unit {0}
-  IsFilled (Some p) = replies_in p.batch ≡ []
-
-  -- a batch that is read has replies alone
-  abbrev pub IsRead : Option (Parcel T A Z) → Type 0
-  IsRead None = Unit {0}
-  IsRead (Some p) = items_in p.batch ≡ []
-
   -- the items that a batch is filled with, and the replies that are still to be handed on of one that is read, in their order
   abbrev pub items_at : Option (Parcel T A Z) → List (ℕ × T)
   items_at None = []
   items_at (Some p) = items_in p.batch
+
+  abbrev pub replies_beside : Option (Parcel T A Z) → List (Reply T A)
+  replies_beside None = []
+  replies_beside (Some p) = replies_in p.batch
 
   abbrev pub replies_at : Option (Parcel T A Z) → List (Reply T A)
   replies_at None = []

@@ -1,6 +1,6 @@
 //! What a source has of one squeue.
 ghost use Rattle.std.specs.Prelude.{◌≡◌, [], All};
-ghost use Rattle.shard_arrivals.specs.Emptied.{IsEmptied, IsFilled, IsRead};
+ghost use Rattle.shard_arrivals.specs.Emptied.{IsEmptied, items_at, replies_beside};
 
 use crate::parcel::Parcel;
 use key_shards::Reply;
@@ -13,15 +13,15 @@ pub(crate) struct Out<T: Drop, A: Drop, Z: Drop> {
     filled: Option<Parcel<T, A, Z>>,
     read: Option<Parcel<T, A, Z>>,
     spare: Vec<Parcel<T, A, Z>>,
-    ghost filling: { IsFilled filled },
-    ghost reading: { IsRead read },
+    ghost filling: { replies_beside filled ≡ [] },
+    ghost reading: { items_at read ≡ [] },
     ghost sparing: { All IsEmptied spare.items },
 }
 
 impl<T: Drop, A: Drop, Z: Drop> Out<T, A, Z> {
     ghost use Rattle.std.specs.Prelude.{◌+◌, ◌++◌, ◌∷◌, ◌<◌, ◌≤◌, ◌↔◌, IfOk, IsSome, IsTrue, None, false, true, length, option_to_list};
     ghost use Rattle.key_shards.specs.Batching.{replies_in};
-    ghost use Rattle.shard_arrivals.specs.Emptied.{is_there, items_at};
+    ghost use Rattle.shard_arrivals.specs.Emptied.{is_there};
     ghost use Rattle.shard_arrivals.specs.Filling.{HasRoom, batches_at, filled_in, read_in, room_for};
 
     /// So many batches with room for so many items. Fails only for want of memory.
