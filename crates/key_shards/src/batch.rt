@@ -1,5 +1,5 @@
 //! Items on their way, and on the way back what came of each.
-ghost use Rattle.std.specs.Prelude.{◌≡◌, ◌≢◌, ◌<◌, ◌↔◌, IsTrue, ◌≤◌, ◌+◌, ◌++◌, ◌∷◌, [], IfOk, length, option_to_list, reverse, vec_capacity};
+ghost use Rattle.std.specs.Prelude.{◌≡◌, ◌<◌, ◌≤◌, ◌+◌, ◌++◌, ◌∷◌, [], IfOk, length, option_to_list, reverse, vec_capacity};
 
 use std::alloc::{AllocError, Global};
 
@@ -94,10 +94,10 @@ impl<T: Drop, A: Drop> Batch<T, A> {
         self.replies.pop()
     }
 
-    /// Whether it has a reply.
-    pub fn has_replies(&self) -> bool
-        ensures { IsTrue result ↔ (replies_in self.now ≢ []) }
+    /// How many replies it has.
+    pub fn replies(&self) -> usize
+        ensures { result ≡ length (replies_in self.now) }
     {
-        !self.replies.is_empty()
+        self.replies.len()
     }
 }

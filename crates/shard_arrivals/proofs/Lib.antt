@@ -1,3 +1,4 @@
+mod Emptying
 mod Fronts
 mod Looks
 mod Pieces

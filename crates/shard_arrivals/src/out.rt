@@ -82,11 +82,13 @@ impl<T: Drop, A: Drop, Z: Drop> Out<T, A, Z> {
         ensures room { room_for self.new ≡ room_for self.old }
         ensures some { result ≡ false → HasRoom self.new }
     {
-        let Some(parcel) = &mut self.filled else {
+        let Some(mut parcel) = self.filled.take() else {
             unreachable!()
         };
         parcel.batch.push(key, item);
-        parcel.batch.len() >= most.min(parcel.batch.room())
+        let is_full = parcel.batch.len() >= most.min(parcel.batch.room());
+        self.filled = Some(parcel);
+        is_full
     }
 
     /// Takes the batch that is filled, where there is one.
@@ -114,6 +116,7 @@ impl<T: Drop, A: Drop, Z: Drop> Out<T, A, Z> {
     }
 
     /// The next reply of the batch that is read. Behind its last it is spare.
+    #[tactic(auto, using(crate::proofs::Emptying::none_left, crate::proofs::Emptying::next_read))]
     pub(crate) fn next_reply(&mut self) -> Option<Reply<T, A>>
         requires room { batches_at self.old ≤ room_for self.old }
         ensures read { read_in self.old ≡ option_to_list result ++ read_in self.new }
@@ -123,10 +126,10 @@ impl<T: Drop, A: Drop, Z: Drop> Out<T, A, Z> {
     {
         let mut parcel = self.read.take()?;
         let reply = parcel.batch.pop();
-        if parcel.batch.has_replies() {
-            self.read = Some(parcel);
-        } else {
+        if parcel.batch.replies() == 0 {
             self.spare.push_reserved(parcel);
+        } else {
+            self.read = Some(parcel);
         }
         reply
     }
