@@ -2,7 +2,7 @@
 use Rattle.std.specs.Prelude.{◌≡◌, ℕ, ◌+◌, ◌<◌, Option, None, Some, List, length, vec_capacity}
 use Rattle.key_shards.specs.declared.batch.Reply.{Reply}
 use Rattle.key_shards.specs.Batching.{batch_room, items_in}
-use Rattle.shard_arrivals.specs.declared.out.Out.{Out}
+use Rattle.shard_arrivals.specs.declared.filling.Out.{Out}
 use Rattle.shard_arrivals.specs.declared.parcel.Parcel.{Parcel}
 use Rattle.shard_arrivals.specs.Emptied.{is_there, items_at, replies_at}
 

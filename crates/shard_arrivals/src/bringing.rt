@@ -4,7 +4,7 @@
 //! handed on in the order of the items, so each item's squeue is kept until then. A batch goes round: it is filled, sent, read and spare.
 ghost use Rattle.std.specs.Prelude.{◌≡◌, ◌<◌, length};
 
-use crate::out::Out;
+use crate::filling::Out;
 use crate::parcel::Parcel;
 use crate::placing::squeue_of;
 use crate::replies::TakesReplies;

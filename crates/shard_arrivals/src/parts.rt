@@ -4,7 +4,7 @@ ghost use Rattle.shard_arrivals.specs.Pooling.{IsInRange};
 
 use crate::bringer::Bringer;
 use crate::bringing::Bringing;
-use crate::out::Out;
+use crate::filling::Out;
 use crate::parcel::Parcel;
 use crate::pool::{ArrivalPool, shard_pool};
 use crate::replies::{Answers, Refusals, TakesReplies};
