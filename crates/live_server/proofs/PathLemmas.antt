@@ -177,7 +177,7 @@ module _ (x : TooLong) (sv : ServerOf) (table : IsTable sv) where
 
   at_sent : (i : ℕ) → AreOfEnds x.ends (shortens_at x i sv).sent
   unfolding shortens_at becomes
-  at_sent i = of_replies x.ends _ _ _ _
+  at_sent i = of_replies x.ends _ _ _
 
   all_table : (b : Bool) (r : Option ℕ) → is_to_us sv.setting x.src x.dst ≡ b → place_of x.ends sv.conns ≡ r → IsTable (on_too_long x sv).server
   all_table false r e at = subst (λ (o : Outcome). IsTable o.server) (sym (told_by false r e at)) (record { once = table.once; bounded = table.bounded })

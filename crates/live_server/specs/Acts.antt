@@ -24,7 +24,9 @@ use Rattle.live_server.specs.declared.congestion.Congestion.{Congestion}
 use Rattle.live_server.specs.Limits.{challenge_interval}
 use Rattle.live_server.specs.Marking.{marked_bytes}
 use Rattle.live_server.specs.Services.{after_pump, pump_of}
+use Rattle.live_server.specs.Showing.{no_shown, showing, told_by}
 use Rattle.live_server.specs.Timing.{clocked, expired, mark_of, no_timing, retimed, timeout}
+use Rattle.live_server.specs.declared.acting.Changes.{Changes}
 use Rattle.live_server.specs.declared.acting.Datagram.{Datagram}
 use Rattle.live_server.specs.declared.conn.Conn.{Conn}
 use Rattle.live_server.specs.declared.conn.Judged.{Judged}
@@ -51,6 +53,7 @@ new_conn service most marking now = record {
   congestion = no_congestion;
   timing = no_timing;
   urgent = 0;
+  shown = no_shown;
 }
 
 -- what stands for one where there is none
@@ -221,9 +224,9 @@ ticked m now c =
     let r = reached now c in
     record r { tcb = pruned m.tight (closed (timeout r.timing) m.draining r.tcb) }
 
--- what was sent leaves the block
+-- what was sent leaves the block, and the window that it tells has been shown
 unfoldable pub emptied : Conn → Conn
-emptied c = record c { tcb = record c.tcb { replies = [] } }
+emptied c = record c { tcb = record c.tcb { replies = [] }; shown = told_by c.tcb.agreed.mss c.tcb.replies c.shown }
 
 abbrev pub datagram_of : Marking → Tuple → Reply → Datagram
 datagram_of m t r = record { at = r.at; bytes = marked_bytes m (segment_bytes t r) }
@@ -247,9 +250,16 @@ unfoldable pub numbered_as : Option ℕ → Reply → Reply
 numbered_as None r = r
 numbered_as (Some una) r = if (r.flags == ack) && (length r.text == 0) then record r { seq = una } else r
 
+-- and all that is changed of what is sent. A window is silly where it is smaller than a segment of ours: half of the receive space is more
+abbrev pub changed : Changes → Reply → Reply
+changed x r = announcing x.most (numbered_as x.waited_for (showing x.least x.shown r))
+
+abbrev pub changes_of : Conn → Changes
+changes_of c = record { most = c.most; waited_for = waited_for c; least = c.tcb.agreed.mss; shown = c.shown; marking = c.marking }
+
 -- the datagrams of what it sent
 abbrev pub sent_by : Tuple → Conn → List Datagram
-sent_by t c = map (λ r. datagram_of c.marking t (announcing c.most (numbered_as (waited_for c) r))) c.tcb.replies
+sent_by t c = map (λ r. datagram_of c.marking t (changed (changes_of c) r)) c.tcb.replies
 
 -- what becomes of a connection and a segment that comes to it, and what is sent
 pub record Meeting : Type 0 where

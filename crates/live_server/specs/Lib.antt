@@ -7,6 +7,7 @@ pub mod Congestion
 pub mod Timing
 pub mod DaytimeText
 pub mod Services
+pub mod Showing
 pub mod Acts
 pub mod PathMtu
 pub mod Urgent

@@ -3,9 +3,10 @@
 ghost use Rattle.std.specs.Prelude.{◌≡◌, IfOk};
 ghost use Rattle.tcb_machine.specs.BlockState.{IsOurs};
 ghost use Rattle.segment_codec.specs.SentIsRead.{text_in};
-ghost use Rattle.live_server.specs.Acts.{announcing, datagram_of, is_longer, numbered_as};
+ghost use Rattle.live_server.specs.Acts.{announcing, changed, datagram_of, is_longer, numbered_as};
 
 use crate::marking::{Marking, marked};
+use crate::showing::Shown;
 use segment_codec::{ACK, Options, Reply, Seg, encode};
 use sq_base::{Octets, Tuple};
 use std::alloc::{AllocError, Global};
@@ -15,6 +16,19 @@ use std::alloc::{AllocError, Global};
 pub struct Datagram {
     pub at: u64,
     pub bytes: Octets,
+}
+
+/// What is changed of each segment that a connection sends.
+#[derive(Clone, Copy)]
+pub(crate) struct Changes {
+    /// No longer MSS is announced.
+    pub most: u16,
+    /// The number that the peer waits for, where its window is 0.
+    pub waited_for: Option<u32>,
+    /// A window of at least so many bytes is shown as it is, and what the peer was last shown.
+    pub least: u16,
+    pub shown: Shown,
+    pub marking: Marking,
 }
 
 /// The datagram of a segment that is sent, marked.
@@ -33,27 +47,25 @@ pub(crate) fn encoded(
     })
 }
 
-/// The same, where no longer MSS is announced than this, and where a peer whose window is 0 waits for a number. What is changed has next to no
-/// text, which is copied.
+/// The same of a segment that is changed. Where it is, its text is copied, and that is rare.
 #[tactic(auto, unfolding(crate::specs::Acts::announcing))]
 pub(crate) fn announced(
     alloc: Global,
     tuple: &Tuple,
     reply: &Reply,
-    most: u16,
-    waited_for: Option<u32>,
-    marking: Marking,
+    changes: Changes,
 ) -> Result<Datagram, AllocError>
     requires { IsOurs reply.now }
-    ensures { IfOk result (λ d. d ≡ datagram_of marking tuple.now (announcing most (numbered_as waited_for reply.now))) }
+    ensures { IfOk result (λ d. d ≡ datagram_of changes.marking tuple.now (changed changes reply.now)) }
 {
-    let seq = numbered_as(reply, waited_for);
-    let longer = is_longer(reply.options.mss, most);
-    if !longer && seq == reply.seq {
-        return encoded(alloc, tuple, reply, marking);
+    let wnd = changes.shown.field(changes.least, reply);
+    let seq = numbered_as(reply, changes.waited_for);
+    let longer = is_longer(reply.options.mss, changes.most);
+    if !longer && seq == reply.seq && wnd == reply.wnd {
+        return encoded(alloc, tuple, reply, changes.marking);
     }
     let mss = if longer {
-        Some(most)
+        Some(changes.most)
     } else {
         reply.options.mss
     };
@@ -64,13 +76,14 @@ pub(crate) fn announced(
     let text = Octets::of(alloc, reply.text.as_slice())?;
     let reply = Reply {
         seq,
+        wnd,
         options,
         text,
         ..*reply
     };
     Ok(Datagram {
         at: reply.at,
-        bytes: marked(alloc, encode(alloc, tuple, &reply)?, marking)?,
+        bytes: marked(alloc, encode(alloc, tuple, &reply)?, changes.marking)?,
     })
 }
 

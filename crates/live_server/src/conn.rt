@@ -1,7 +1,7 @@
 //! One connection: its block, and what the server keeps beside it.
 
 ghost use Rattle.std.specs.Prelude.{false, ◌≡◌, ◌==◌, ◌&&◌, ◌++◌, ◌-◌, ◌<◌, ◌≤◌, IfOk, None, OnErr, OnOk, Some, if◌then◌else◌};
-ghost use Rattle.live_server.specs.Acts.{after, allowed, challenged, closed, emptied, has_room, is_allowed, is_half_open, is_idle, is_outside, is_over, is_probing, is_waited_for, judged, meets};
+ghost use Rattle.live_server.specs.Acts.{after, allowed, challenged, changes_of, closed, emptied, has_room, is_allowed, is_half_open, is_idle, is_outside, is_over, is_probing, is_waited_for, judged, meets};
 ghost use Rattle.live_server.specs.Acts.{gone_back, new_conn, oldest_ack, provokes, pruned, reached, read_nxt, receives, renewed, repaired, resent, sent_by, taken, takes, ticked, waited_for};
 ghost use Rattle.live_server.specs.Congestion.{resends, segments};
 ghost use Rattle.live_server.specs.Facts.{facts_of};
@@ -15,12 +15,13 @@ ghost use Rattle.tcb_machine.specs.CallAnswers.{tcp_call};
 ghost use Rattle.tcb_machine.specs.Limits.{last_time, longest_timeout};
 ghost use Rattle.echo_services.specs.Serving.{followed};
 
-use crate::acting::{Datagram, announced};
+use crate::acting::{Changes, Datagram, announced};
 use crate::congestion::{Congestion, flight, is_fresh, is_open};
 use crate::facts::Facts;
 use crate::marking::Marking;
 use crate::measures::Measures;
 use crate::service::LiveService;
+use crate::showing::Shown;
 use crate::timing::{Mark, Timing, retime};
 use echo_services::{serve, tick};
 use segment_codec::{ACK, RST, SYN, Seg};
@@ -55,6 +56,8 @@ pub struct Conn {
     pub timing: Timing,
     /// How many bytes of urgent data its service hasn't read: RCV.UP less what it read, or 0 where nothing urgent is left (RFC 9293, 3.8.5).
     pub urgent: u32,
+    /// The window that its peer was last shown.
+    pub shown: Shown,
 }
 
 /// What becomes of a segment.
@@ -97,6 +100,7 @@ impl Conn {
             congestion: Congestion::fresh(),
             timing: Timing::fresh(),
             urgent: 0,
+            shown: Shown::nothing(),
         }
     }
 
@@ -326,6 +330,19 @@ impl Conn {
         }
     }
 
+    /// What is changed of what it sends.
+    fn changes(&self) -> Changes
+        ensures { result ≡ changes_of self.now }
+    {
+        Changes {
+            most: self.most,
+            waited_for: self.waited_for(),
+            least: self.tcb.mss(),
+            shown: self.shown,
+            marking: self.marking,
+        }
+    }
+
     /// What the block has sent leaves it, and goes behind the datagrams that are there.
     #[tactic(auto, unfolding(crate::specs::Acts::emptied))]
     pub fn send(
@@ -338,12 +355,11 @@ impl Conn {
         ensures sent { OnOk result (out.new.items ≡ out.old.items ++ sent_by tuple.now self.old) }
         ensures wrote { OnErr result (HasSent out.old.items out.new.items (sent_by tuple.now self.old)) }
     {
-        let most = self.most;
-        let marking = self.marking;
-        let waited_for = self.waited_for();
+        let changes = self.changes();
         let replies = self.tcb.take_replies(alloc);
+        self.shown = changes.shown.behind(changes.least, &replies);
         for reply in &replies {
-            out.push(announced(alloc, tuple, reply, most, waited_for, marking)?)?;
+            out.push(announced(alloc, tuple, reply, changes)?)?;
         }
         Ok(())
     }
