@@ -24,7 +24,7 @@ use Rattle.live_server.specs.declared.congestion.Congestion.{Congestion}
 use Rattle.live_server.specs.Limits.{challenge_interval}
 use Rattle.live_server.specs.Marking.{marked_bytes}
 use Rattle.live_server.specs.Services.{after_pump, pump_of}
-use Rattle.live_server.specs.Showing.{no_shown, showing, told_by}
+use Rattle.live_server.specs.Showing.{no_shown, shown_field, told_by}
 use Rattle.live_server.specs.Timing.{clocked, expired, mark_of, no_timing, retimed, timeout}
 use Rattle.live_server.specs.declared.acting.Changes.{Changes}
 use Rattle.live_server.specs.declared.acting.Datagram.{Datagram}
@@ -252,7 +252,7 @@ numbered_as (Some una) r = if (r.flags == ack) && (length r.text == 0) then reco
 
 -- and all that is changed of what is sent. A window is silly where it is smaller than a segment of ours: half of the receive space is more
 abbrev pub changed : Changes → Reply → Reply
-changed x r = announcing x.most (numbered_as x.waited_for (showing x.least x.shown r))
+changed x r = record (announcing x.most (numbered_as x.waited_for r)) { wnd = shown_field x.least x.shown r }
 
 abbrev pub changes_of : Conn → Changes
 changes_of c = record { most = c.most; waited_for = waited_for c; least = c.tcb.agreed.mss; shown = c.shown; marking = c.marking }
