@@ -35,3 +35,4 @@ pub mod HostLemmas
 pub mod CountsLemmas
 pub mod TimingLemmas
 pub mod UrgentLemmas
+pub mod ShowingLemmas

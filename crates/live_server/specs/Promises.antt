@@ -1,10 +1,11 @@
 -- What the rules promise: of the text that all hold and of that which is sent, of challenges, of who gives way, and of the congestion window.
-use Rattle.std.specs.Prelude.{◌≡◌, ◌≢◌, ℕ, ◌+◌, ◌-◌, ◌*◌, ◌^◌, ◌<◌, ◌≤◌, min, max, Bool, true, false, suc, List, [], ◌∷◌, ◌++◌, length, slice_get, Some, None, if◌then◌else◌}
+use Rattle.std.specs.Prelude.{◌≡◌, ◌≢◌, ℕ, ◌+◌, ◌-◌, ◌*◌, ◌%◌, ◌^◌, ◌<◌, ◌≤◌, min, max, Bool, true, false, suc, List, [], ◌∷◌, ◌++◌, length, slice_get, Some, None, if◌then◌else◌}
 use Rattle.std.specs.List.{AllByRecursion}
 use Rattle.std.specs.Map.{lookup}
 use Rattle.byte_queues.specs.ReceiveQueue.{front}
-use Rattle.segment_codec.specs.ControlBits.{syn}
+use Rattle.segment_codec.specs.ControlBits.{ack, syn}
 use Rattle.segment_codec.specs.Refusal.{tuple_of}
+use Rattle.segment_codec.specs.declared.packet.Reply.{Reply}
 use Rattle.segment_codec.specs.declared.packet.Seg.{Seg}
 use Rattle.sq_base.specs.SerialOrder.{dist}
 use Rattle.sq_base.specs.declared.kinds.Tuple.{Tuple}
@@ -14,12 +15,13 @@ use Rattle.tcb_machine.specs.Output.{output}
 use Rattle.tcb_machine.specs.Shortening.{shortening}
 use Rattle.tcb_machine.specs.TcpStep.{with_window}
 use Rattle.tcb_machine.specs.Validity.{IsValid}
-use Rattle.live_server.specs.Acts.{emptied, is_over, judged, new_conn, reached, receives, ticked}
+use Rattle.live_server.specs.Acts.{changed, changes_of, emptied, is_over, judged, new_conn, reached, receives, ticked}
 use Rattle.live_server.specs.Congestion.{again_up_to, eased, first_window, flight, is_fresh, is_slow, no_congestion, rested, restarted, seen, seen_window, timed_out, usable}
 use Rattle.live_server.specs.Isolation.{IsTable, conn_of, staying}
 use Rattle.live_server.specs.Leaving.{keeps_out, share}
 use Rattle.live_server.specs.Limits.{challenge_interval}
 use Rattle.live_server.specs.PathMtu.{is_heeded, path_told, text_in_mtu}
+use Rattle.live_server.specs.Showing.{left, unit}
 use Rattle.live_server.specs.Serving.{ServerOf, heeded_text, is_tight, limited, on_segment, on_time}
 use Rattle.live_server.specs.Table.{held_by, tuple_eq}
 use Rattle.live_server.specs.Urgent.{ahead_by, is_news, urg, urged, urgent_in}
@@ -259,3 +261,23 @@ MarkingStays = (x : Coming) (c : Conn) → (came x c).marking ≡ c.marking
 
 abbrev pub PathKeepsMarking : Type 0
 PathKeepsMarking = (seq most : ℕ) (c : Conn) → (path_told seq most c).marking ≡ c.marking
+
+-- ---- windows that are shown
+-- What is shown in place of a block's own window field, where one of that field is so many bytes, and so many numbers lie between the acknowledgement and
+-- the edge that was announced. It is no wider, and the same where that is a whole segment or more. A silly one raises no edge; and it lowers it by less
+-- than one of the field where the block's own window reaches it (RFC 9293, 3.8.6.2.2)
+pub record IsSensible (least unit left own shown : ℕ) : Type 0 where
+  pub most : shown ≤ own
+  pub wide : least ≤ own * unit → shown ≡ own
+  pub silly : shown * unit < least → shown * unit ≤ left
+  pub kept : left < (own + 1) * unit → left < (shown + 1) * unit
+
+-- so it is of each segment that a connection sends, but for the SYN,ACK, which shows all
+abbrev pub NoneIsSilly : Type 0
+NoneIsSilly = (c : Conn) (r : Reply) → has r.flags syn ≡ false
+    → IsSensible c.tcb.agreed.mss (unit c.shown) (left r.ack c.shown) r.wnd (changed (changes_of c) r).wnd
+
+-- and the edge that was announced is what the peer reads in the last one
+abbrev pub EdgeIsRead : Type 0
+EdgeIsRead = (c : Conn) (r : Reply) → slice_get c.tcb.replies (length c.tcb.replies - 1) ≡ Some r → has r.flags ack ≡ true → has r.flags syn ≡ false
+    → ((emptied c).shown.edge ≡ (r.ack + (changed (changes_of c) r).wnd * unit c.shown) % 2 ^ 32) × ((emptied c).shown.scaled ≡ c.shown.scaled)

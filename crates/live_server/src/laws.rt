@@ -12,6 +12,7 @@ ghost use Rattle.live_server.specs.Promises.{AgainIsWithin, HeededIsShort, PathI
 ghost use Rattle.live_server.specs.Promises.{SilenceIsNarrow, SlowStartIsSlow, TimeoutIsNarrow};
 ghost use Rattle.live_server.specs.Promises.{MarkingStays, PathKeepsMarking};
 ghost use Rattle.live_server.specs.Promises.{TickKeepsOrder, TightHoldsOrder, TimeKeepsShort, TimeoutIsWide};
+ghost use Rattle.live_server.specs.Promises.{EdgeIsRead, NoneIsSilly};
 ghost use Rattle.live_server.specs.Promises.{SegmentRaisesNone, TimeRaisesNone, UnflaggedSaysNothing, UrgentAdvances};
 
 /// Each connection stands once in the table, and there are no more than there are places.
@@ -193,4 +194,11 @@ pub fn what_is_marked_is_read()
 pub fn a_marking_stays()
     ensures comes { MarkingStays }
     ensures path { PathKeepsMarking }
+{}
+
+/// A window that is smaller than a segment is never shown where it would raise the edge that was announced, and the edge falls by less than one unit of
+/// the window's scale where the block's own window reaches it (RFC 9293, 3.8.6.2.2). The edge is what the peer reads in the last segment.
+pub fn no_silly_window_is_shown()
+    ensures none { NoneIsSilly }
+    ensures edge { EdgeIsRead }
 {}
