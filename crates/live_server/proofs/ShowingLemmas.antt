@@ -1,5 +1,5 @@
 -- The window that a peer is shown.
-use Rattle.std.proofs.Common.{◌≡◌, ℕ, ◌+◌, ◌-◌, ◌*◌, ◌/◌, ◌%◌, ◌^◌, ◌<◌, ◌≤◌, min, nat_le, ◌||◌, not, Bool, true, false, cond, length, slice_get, Option, Some, is_some, refl, sym, ap, subst, ◌∙◌, arith}
+use Rattle.std.proofs.Common.{◌≡◌, ℕ, ◌+◌, ◌*◌, ◌/◌, ◌%◌, ◌^◌, min, nat_le, ◌||◌, not, Bool, true, false, cond, Option, is_some, refl, sym, ap, subst, ◌∙◌, arith}
 use Rattle.std.specs.Option.{option_map_or}
 use Rattle.std.proofs.lemmas.Bool.Decides.{nat_tests}
 use Rattle.segment_codec.specs.ControlBits.{ack, syn}
@@ -39,6 +39,6 @@ pub edge_is_read : EdgeIsRead
 unfolding emptied told_by
 edge_is_read c r last acks plain =
     let told : (emptied c).shown ≡ told_edge (showing c.tcb.agreed.mss c.shown r) c.shown
-        = ap (λ (o : Option Reply). option_map_or (λ (s : Reply). told_edge (showing c.tcb.agreed.mss c.shown s) c.shown) o c.shown) last in
+    = ap (λ (o : Option Reply). option_map_or (λ (s : Reply). told_edge (showing c.tcb.agreed.mss c.shown s) c.shown) o c.shown) last in
     let is = told ∙ told_plain (showing c.tcb.agreed.mss c.shown r) c.shown acks plain in
     (ap (λ (x : Shown). x.edge) is, ap (λ (x : Shown). x.scaled) is)
