@@ -21,8 +21,8 @@ use Rattle.live_server.specs.Isolation.{IsTable, conn_of, staying}
 use Rattle.live_server.specs.Leaving.{keeps_out, share}
 use Rattle.live_server.specs.Limits.{challenge_interval}
 use Rattle.live_server.specs.PathMtu.{is_heeded, path_told, text_in_mtu}
-use Rattle.live_server.specs.Showing.{left, unit}
 use Rattle.live_server.specs.Serving.{ServerOf, heeded_text, is_tight, limited, on_segment, on_time}
+use Rattle.live_server.specs.Showing.{left, unit}
 use Rattle.live_server.specs.Table.{held_by, tuple_eq}
 use Rattle.live_server.specs.Urgent.{ahead_by, is_news, urg, urged, urgent_in}
 use Rattle.live_server.specs.declared.congestion.Congestion.{Congestion}
