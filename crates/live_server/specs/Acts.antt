@@ -4,7 +4,7 @@ use Rattle.std.specs.Prelude.{List, [], ◌∷◌, ◌++◌, length, map, if◌t
 use Rattle.sq_base.specs.SerialOrder.{dist}
 use Rattle.byte_queues.specs.Limits.{send_space}
 use Rattle.byte_queues.specs.ReceiveQueue.{next_of, ready_of}
-use Rattle.echo_services.specs.Serving.{followed, kept, serves, segment}
+use Rattle.echo_services.specs.Serving.{kept}
 use Rattle.segment_codec.specs.ControlBits.{ack, rst, syn}
 use Rattle.segment_codec.specs.SegmentBytes.{segment_bytes}
 use Rattle.segment_codec.specs.declared.packet.Reply.{Reply}
@@ -15,6 +15,7 @@ use Rattle.tcb_machine.specs.CallAnswers.{tcp_call}
 use Rattle.tcb_machine.specs.Challenges.{is_challenged, is_syn_received}
 use Rattle.tcb_machine.specs.Forgetting.{forgetting}
 use Rattle.tcb_machine.specs.Limits.{most_streamed}
+use Rattle.tcb_machine.specs.Output.{output}
 use Rattle.tcb_machine.specs.States.{is_consumed, is_listen}
 use Rattle.tcb_machine.specs.TcpStep.{tcp_segment}
 use Rattle.tcb_machine.specs.Timers.{retransmits, tcp_time}
@@ -23,6 +24,7 @@ use Rattle.live_server.specs.Congestion.{again_up_to, calls_again, eased, is_fre
 use Rattle.live_server.specs.declared.congestion.Congestion.{Congestion}
 use Rattle.live_server.specs.Limits.{challenge_interval}
 use Rattle.live_server.specs.Marking.{marked_bytes}
+use Rattle.live_server.specs.Sending.{follows, is_overdue, keeping, largest_with, no_sending}
 use Rattle.live_server.specs.Services.{after_pump, pump_of}
 use Rattle.live_server.specs.Timing.{clocked, expired, mark_of, no_timing, retimed, timeout}
 use Rattle.live_server.specs.declared.acting.Datagram.{Datagram}
@@ -33,6 +35,7 @@ use Rattle.live_server.specs.declared.conn.Met.{Met}
 use Rattle.live_server.specs.declared.conn.Met.TheVariants.{Gone, Judged as judges}
 use Rattle.live_server.specs.declared.marking.Marking.{Marking}
 use Rattle.live_server.specs.declared.measures.Measures.{Measures}
+use Rattle.live_server.specs.declared.sending.Sending.{Sending}
 use Rattle.live_server.specs.declared.service.LiveService.{LiveService}
 use Rattle.live_server.specs.declared.service.LiveService.TheVariants.{Discard}
 
@@ -50,6 +53,7 @@ new_conn service most marking now = record {
   quiet_until = 0;
   congestion = no_congestion;
   timing = no_timing;
+  sending = no_sending;
   urgent = 0;
 }
 
@@ -130,14 +134,15 @@ repaired field fresh again c =
       congestion = (if goes then record x { again = to } else x);
     }
 
--- the block and the service take it, as the congestion window lets it; the timer, where it starts, does so with the timeout of the round trips.
+-- the block and the service take it, as the congestion window lets it, and no silly window is sent; the timer, where it starts, does so with the timeout of the round trips.
 -- What the service reads is urgent no more (RFC 9293, 3.8.5)
 unfoldable pub taken : ℕ → ℕ → Seg → List ℕ → Conn → Conn
 taken now iss s text c =
     let r = rested now (timeout c.timing) c.tcb c.congestion in
     let x = eased s c.tcb r in
     let m = mark_of c.tcb in
-    let b = serves (pump_of c.service) (segment now iss (seen s c.tcb x) text ∷ []) c.tcb in
+    let y = largest_with s c.tcb c.sending in
+    let b = follows y.largest (pump_of c.service) (tcp_segment now iss (seen s c.tcb x) text c.tcb) in
     let again = calls_again s c.tcb r in
     let t = clocked now again m b c.timing in
     let d = renewed c.tcb.una s.wnd (retimed (timeout t) m b) in
@@ -146,6 +151,7 @@ taken now iss s text c =
       service = kept after_pump c.service (tcp_segment now iss (seen s c.tcb x) text c.tcb);
       congestion = noted now again m d x;
       timing = t;
+      sending = keeping now m d y;
       urgent = c.urgent - dist (read_nxt c.tcb) (read_nxt b);
       heard = now;
     })
@@ -193,13 +199,20 @@ slowed before b x = if nat_lt before b.retransmissions && not (x.field == 0) the
 abbrev pub is_probing : Block → Congestion → Bool
 is_probing b x = is_open b && (x.field == 0)
 
+-- what was kept back for a whole segment, and has waited long enough, goes (RFC 9293, 3.8.6.2.1, (4)), but in recovery, where cwnd may be less than the window
+unfoldable pub overruled : ℕ → Congestion → Sending → Block → Block
+overruled now x s b = if not x.recovering && is_overdue now b s then output b else b
+
 abbrev pub reached : ℕ → Conn → Conn
 reached now c =
     let b = reaches now c.tcb in
+    let x = slowed c.tcb.retransmissions b c.congestion in
+    let d = overruled now x c.sending b in
     record c {
-      tcb = b;
-      congestion = slowed c.tcb.retransmissions b c.congestion;
+      tcb = d;
+      congestion = noted now false (mark_of b) d x;
       timing = expired c.tcb.retransmissions (is_probing b c.congestion) b c.timing;
+      sending = keeping now (mark_of b) d c.sending;
     }
 
 -- where the memory for text is tight, a block forgets what it holds behind a gap
@@ -208,8 +221,8 @@ pruned tight b = if tight then forgetting b else b
 
 -- and where the server drains, it closes (RFC 9293, 3.10.4): what it has to send goes first, and then its FIN. One that is half open stays so,
 -- and one that closes stays as it is. Its service offers nothing more from then on. A timer that starts does so with this RTO
-unfoldable pub closed : ℕ → Bool → Block → Block
-closed rto draining b = if draining then retimed rto (mark_of b) (followed (λ c. c) (tcp_call Close b).verdict) else b
+unfoldable pub closed : ℕ → ℕ → Bool → Block → Block
+closed largest rto draining b = if draining then retimed rto (mark_of b) (follows largest (λ c. c) (tcp_call Close b).verdict) else b
 
 -- nothing of that
 abbrev pub no_measures : Measures
@@ -219,7 +232,7 @@ no_measures = record { tight = false; draining = false }
 abbrev pub ticked : Measures → ℕ → Conn → Conn
 ticked m now c =
     let r = reached now c in
-    record r { tcb = pruned m.tight (closed (timeout r.timing) m.draining r.tcb) }
+    record r { tcb = pruned m.tight (closed r.sending.largest (timeout r.timing) m.draining r.tcb) }
 
 -- what was sent leaves the block
 unfoldable pub emptied : Conn → Conn

@@ -5,6 +5,7 @@ pub mod Initial
 pub mod Addresses
 pub mod Congestion
 pub mod Timing
+pub mod Sending
 pub mod DaytimeText
 pub mod Services
 pub mod Acts

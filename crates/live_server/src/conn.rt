@@ -2,27 +2,31 @@
 
 ghost use Rattle.std.specs.Prelude.{false, ◌≡◌, ◌==◌, ◌&&◌, ◌++◌, ◌-◌, ◌<◌, ◌≤◌, IfOk, None, OnErr, OnOk, Some, if◌then◌else◌};
 ghost use Rattle.live_server.specs.Acts.{after, allowed, challenged, closed, emptied, has_room, is_allowed, is_half_open, is_idle, is_outside, is_over, is_probing, is_waited_for, judged, meets};
-ghost use Rattle.live_server.specs.Acts.{gone_back, new_conn, oldest_ack, provokes, pruned, reached, read_nxt, receives, renewed, repaired, resent, sent_by, taken, takes, ticked, waited_for};
-ghost use Rattle.live_server.specs.Congestion.{resends, segments};
+ghost use Rattle.live_server.specs.Acts.{gone_back, new_conn, oldest_ack, overruled, provokes, pruned, reached, read_nxt, receives, renewed, repaired, resent, sent_by, taken, takes, ticked, waited_for};
+ghost use Rattle.live_server.specs.Congestion.{noted, resends, segments};
 ghost use Rattle.live_server.specs.Facts.{facts_of};
 ghost use Rattle.live_server.specs.Leaving.{is_given_up};
+ghost use Rattle.live_server.specs.Sending.{follows, keeping};
+ghost use Rattle.live_server.specs.Services.{after_pump, pump_of};
+ghost use Rattle.live_server.specs.Timing.{mark_of};
 ghost use Rattle.live_server.specs.Written.{HasSent};
 ghost use Rattle.tcb_machine.specs.BlockState.{in_flight, rcv_nxt, rcv_wnd};
 ghost use Rattle.tcb_machine.specs.States.{is_consumed, is_listen};
-ghost use Rattle.tcb_machine.specs.TcpStep.{is_time_wait};
+ghost use Rattle.tcb_machine.specs.TcpStep.{is_time_wait, said};
 ghost use Rattle.tcb_machine.specs.Room.{HasRoom};
 ghost use Rattle.tcb_machine.specs.CallAnswers.{tcp_call};
 ghost use Rattle.tcb_machine.specs.Limits.{last_time, longest_timeout};
-ghost use Rattle.echo_services.specs.Serving.{followed};
+ghost use Rattle.echo_services.specs.Serving.{kept};
 
 use crate::acting::{Datagram, announced};
 use crate::congestion::{Congestion, flight, is_fresh, is_open};
 use crate::facts::Facts;
 use crate::marking::Marking;
 use crate::measures::Measures;
+use crate::sending::{Sending, output};
 use crate::service::LiveService;
 use crate::timing::{Mark, Timing, retime};
-use echo_services::{serve, tick};
+use echo_services::{PortService, tick};
 use segment_codec::{ACK, RST, SYN, Seg};
 use sq_base::{Tuple, seq_dist};
 use std::alloc::{AllocError, Global};
@@ -53,6 +57,7 @@ pub struct Conn {
     pub quiet_until: u64,
     pub congestion: Congestion,
     pub timing: Timing,
+    pub sending: Sending,
     /// How many bytes of urgent data its service hasn't read: RCV.UP less what it read, or 0 where nothing urgent is left (RFC 9293, 3.8.5).
     pub urgent: u32,
 }
@@ -96,6 +101,7 @@ impl Conn {
             quiet_until: 0,
             congestion: Congestion::fresh(),
             timing: Timing::fresh(),
+            sending: Sending::fresh(),
             urgent: 0,
         }
     }
@@ -215,23 +221,34 @@ impl Conn {
         let seen = self.congestion.seen(&self.tcb, seg);
         let before = Mark::of(&self.tcb);
         let unread = read_nxt(&self.tcb);
-        serve(
-            &mut self.service,
-            &mut self.tcb,
-            alloc,
-            now,
-            iss,
-            &seen,
-            text,
-        )?;
+        self.sending.hear(&self.tcb, seg);
+        let next = self.tcb.segment(alloc, now, iss, &seen, text)?;
+        self.follow(alloc, next)?;
         let read = seq_dist(unread, read_nxt(&self.tcb));
         self.urgent = self.urgent.saturating_sub(read);
         self.timing.follow(&self.tcb, before, now, again);
         retime(&mut self.tcb, before, self.timing.timeout());
         renew(&mut self.tcb, before.una, seg.wnd);
         self.congestion.note(&self.tcb, before, now, again);
+        self.sending.keep(&self.tcb, before, now);
         self.heard = now;
         self.repair(alloc, seg.wnd, fresh, again)
+    }
+
+    /// Pump and output, where they follow: no silly window is sent. After an error nothing more is promised.
+    fn follow(&mut self, alloc: Global, next: Next) -> Result<(), AllocError>
+        ensures { OnOk result (self.new ≡ record self.old {
+            tcb = follows self.old.sending.largest (pump_of self.old.service) (said next self.old.tcb);
+            service = kept after_pump self.old.service (said next self.old.tcb);
+        }) }
+    {
+        match next {
+            Next::Over => Ok(()),
+            Next::Go => {
+                self.service.pump(&mut self.tcb, alloc)?;
+                output(&mut self.tcb, alloc, self.sending.largest)
+            }
+        }
     }
 
     /// What was under way goes again: behind a timeout as slow start lets, where more of it is acknowledged. Elsewhere the first segment does,
@@ -305,6 +322,26 @@ impl Conn {
         if before < self.tcb.retransmissions() && self.congestion.field != 0 {
             self.congestion.time_out(&self.tcb);
         }
+        self.overrule(alloc, now)
+    }
+
+    /// What was kept back for a whole segment, and has waited long enough, goes (RFC 9293, 3.8.6.2.1), but in recovery. After an error nothing more is
+    /// promised.
+    #[tactic(auto, unfolding(crate::specs::Acts::overruled))]
+    fn overrule(&mut self, alloc: Global, now: u64) -> Result<(), AllocError>
+        requires { now ≤ last_time }
+        ensures { OnOk result (self.new ≡ record self.old {
+            tcb = overruled now self.old.congestion self.old.sending self.old.tcb;
+            congestion = noted now false (mark_of self.old.tcb) self.new.tcb self.old.congestion;
+            sending = keeping now (mark_of self.old.tcb) self.new.tcb self.old.sending;
+        }) }
+    {
+        let before = Mark::of(&self.tcb);
+        if !self.congestion.recovering && self.sending.is_overdue(&self.tcb, now) {
+            self.tcb.output(alloc)?;
+        }
+        self.congestion.note(&self.tcb, before, now, false);
+        self.sending.keep(&self.tcb, before, now);
         Ok(())
     }
 
@@ -388,6 +425,7 @@ impl Conn {
             alloc,
             measures.draining,
             self.timing.timeout(),
+            self.sending.largest,
         )?;
         prune(&mut self.tcb, measures.tight);
         self.send(alloc, tuple, out)
@@ -446,26 +484,32 @@ impl Conn {
 
 /// Where the server drains, a block closes, and its timer, where it starts, does so with this RTO. After an error nothing more is promised of it.
 #[tactic(auto, unfolding(crate::specs::Acts::closed))]
-fn close(tcb: &mut Tcb, alloc: Global, draining: bool, rto: u64) -> Result<(), AllocError>
+fn close(
+    tcb: &mut Tcb,
+    alloc: Global,
+    draining: bool,
+    rto: u64,
+    largest: u32,
+) -> Result<(), AllocError>
     requires some { 1 ≤ rto }
     requires most { rto ≤ longest_timeout }
-    ensures { OnOk result (tcb.new ≡ closed rto draining tcb.old) }
+    ensures { OnOk result (tcb.new ≡ closed largest rto draining tcb.old) }
 {
     if draining {
         let before = Mark::of(tcb);
-        call_close(tcb, alloc)?;
+        call_close(tcb, alloc, largest)?;
         retime(tcb, before, rto);
     }
     Ok(())
 }
 
 /// CLOSE, and what goes out behind it. After an error nothing more is promised of the block.
-fn call_close(tcb: &mut Tcb, alloc: Global) -> Result<(), AllocError>
-    ensures { OnOk result (tcb.new ≡ followed (λ c. c) (tcp_call Call.Close tcb.old).verdict) }
+fn call_close(tcb: &mut Tcb, alloc: Global, largest: u32) -> Result<(), AllocError>
+    ensures { OnOk result (tcb.new ≡ follows largest (λ c. c) (tcp_call Call.Close tcb.old).verdict) }
 {
     match tcb.call(alloc, Call::Close)?.1 {
         Next::Over => Ok(()),
-        Next::Go => tcb.output(alloc),
+        Next::Go => output(tcb, alloc, largest),
     }
 }
 
