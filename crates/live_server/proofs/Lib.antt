@@ -26,6 +26,7 @@ pub mod AnsweredLemmas
 pub mod ToldLemmas
 pub mod PromiseLemmas
 pub mod FlightLemmas
+pub mod SendingLemmas
 pub mod ShortLemmas
 pub mod PathLemmas
 pub mod OneLemmas

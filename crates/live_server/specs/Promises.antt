@@ -1,5 +1,6 @@
--- What the rules promise: of the text that all hold and of that which is sent, of challenges, of who gives way, and of the congestion window.
-use Rattle.std.specs.Prelude.{◌≡◌, ◌≢◌, ℕ, ◌+◌, ◌-◌, ◌*◌, ◌^◌, ◌<◌, ◌≤◌, min, max, Bool, true, false, suc, List, [], ◌∷◌, ◌++◌, length, slice_get, Some, None, if◌then◌else◌}
+-- What the rules promise: of the text that all hold and of that which is sent, of challenges, of who gives way, of the congestion window, and of
+-- silly windows.
+use Rattle.std.specs.Prelude.{◌≡◌, ◌≢◌, ℕ, ◌+◌, ◌-◌, ◌*◌, ◌^◌, ◌<◌, ◌≤◌, ◌⊎◌, min, max, Bool, true, false, suc, List, [], ◌∷◌, ◌++◌, length, slice_get, Some, None, if◌then◌else◌}
 use Rattle.std.specs.List.{AllByRecursion}
 use Rattle.std.specs.Map.{lookup}
 use Rattle.byte_queues.specs.ReceiveQueue.{front}
@@ -8,18 +9,20 @@ use Rattle.segment_codec.specs.Refusal.{tuple_of}
 use Rattle.segment_codec.specs.declared.packet.Seg.{Seg}
 use Rattle.sq_base.specs.SerialOrder.{dist}
 use Rattle.sq_base.specs.declared.kinds.Tuple.{Tuple}
-use Rattle.tcb_machine.specs.BlockState.{Block, has, held_in, one_if, rcv_nxt, rcv_wnd}
+use Rattle.tcb_machine.specs.BlockState.{Block, has, held_in, one_if, rcv_nxt, rcv_wnd, unsent}
 use Rattle.tcb_machine.specs.Limits.{default_mss, least_mss}
-use Rattle.tcb_machine.specs.Output.{output}
+use Rattle.tcb_machine.specs.Output.{output, pieces, sendable}
 use Rattle.tcb_machine.specs.Shortening.{shortening}
+use Rattle.tcb_machine.specs.States.{is_listen}
 use Rattle.tcb_machine.specs.TcpStep.{with_window}
 use Rattle.tcb_machine.specs.Validity.{IsValid}
-use Rattle.live_server.specs.Acts.{emptied, is_over, judged, new_conn, reached, receives, ticked}
+use Rattle.live_server.specs.Acts.{emptied, is_over, judged, new_conn, overruled, reached, receives, ticked}
 use Rattle.live_server.specs.Congestion.{again_up_to, eased, first_window, flight, is_fresh, is_slow, no_congestion, rested, restarted, seen, seen_window, timed_out, usable}
 use Rattle.live_server.specs.Isolation.{IsTable, conn_of, staying}
 use Rattle.live_server.specs.Leaving.{keeps_out, share}
 use Rattle.live_server.specs.Limits.{challenge_interval}
 use Rattle.live_server.specs.PathMtu.{is_heeded, path_told, text_in_mtu}
+use Rattle.live_server.specs.Sending.{override_timeout, spared, usable_window}
 use Rattle.live_server.specs.Serving.{ServerOf, heeded_text, is_tight, limited, on_segment, on_time}
 use Rattle.live_server.specs.Table.{held_by, tuple_eq}
 use Rattle.live_server.specs.Urgent.{ahead_by, is_news, urg, urged, urgent_in}
@@ -29,6 +32,7 @@ use Rattle.live_server.specs.declared.conn.Judged.{Judged}
 use Rattle.live_server.specs.declared.conn.Judged.TheVariants.{Challenged, Late, Taken, Unanswered}
 use Rattle.live_server.specs.declared.marking.Marking.{Marking}
 use Rattle.live_server.specs.declared.measures.Measures.{Measures}
+use Rattle.live_server.specs.declared.sending.Sending.{Sending}
 use Rattle.live_server.specs.declared.service.LiveService.{LiveService}
 
 -- ---- text
@@ -259,3 +263,25 @@ MarkingStays = (x : Coming) (c : Conn) → (came x c).marking ≡ c.marking
 
 abbrev pub PathKeepsMarking : Type 0
 PathKeepsMarking = (seq most : ℕ) (c : Conn) → (path_told seq most c).marking ≡ c.marking
+
+-- ---- silly windows
+-- the texts of the segments that output sends
+abbrev pub new_texts : Block → List (List ℕ)
+new_texts b = pieces (length (sendable b)) b.agreed.mss (sendable b)
+
+-- one of them is whole, or all that is queued goes, or it is half of the largest window at least (RFC 9293, 3.8.6.2.1)
+abbrev pub IsNoSilly : ℕ → Block → List ℕ → Type 0
+IsNoSilly largest b text = (length text ≡ b.agreed.mss) ⊎ ((sendable b ≡ unsent b) ⊎ (largest ≤ 2 * length text))
+
+-- so it is of each new segment that goes where no time is up
+abbrev pub NoneIsSilly : Type 0
+NoneIsSilly = (largest : ℕ) (b : Block) → 1 ≤ b.agreed.mss → is_listen b.state ≡ false
+    → AllByRecursion (IsNoSilly largest (spared largest b)) (new_texts (spared largest b))
+
+-- and nothing that fits waits
+abbrev pub FittingGoes : Type 0
+FittingGoes = (largest : ℕ) (b : Block) → length (unsent b) ≤ usable_window b → spared largest b ≡ b
+
+-- any other goes only where something was kept back for the override timeout
+abbrev pub OverruleWaits : Type 0
+OverruleWaits = (now : ℕ) (x : Congestion) (s : Sending) (b : Block) → ((at : ℕ) → s.since ≡ Some at → now < at + override_timeout) → overruled now x s b ≡ b

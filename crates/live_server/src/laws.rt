@@ -11,6 +11,7 @@ ghost use Rattle.live_server.specs.Promises.{NewIsShort, SegmentKeepsShort, Show
 ghost use Rattle.live_server.specs.Promises.{AgainIsWithin, HeededIsShort, PathIsBounded, PlacedStaysShort, RestartIsWide, BeginsBeyondRecover, UnsentIsIgnored};
 ghost use Rattle.live_server.specs.Promises.{SilenceIsNarrow, SlowStartIsSlow, TimeoutIsNarrow};
 ghost use Rattle.live_server.specs.Promises.{MarkingStays, PathKeepsMarking};
+ghost use Rattle.live_server.specs.Promises.{FittingGoes, NoneIsSilly, OverruleWaits};
 ghost use Rattle.live_server.specs.Promises.{TickKeepsOrder, TightHoldsOrder, TimeKeepsShort, TimeoutIsWide};
 ghost use Rattle.live_server.specs.Promises.{SegmentRaisesNone, TimeRaisesNone, UnflaggedSaysNothing, UrgentAdvances};
 
@@ -193,4 +194,12 @@ pub fn what_is_marked_is_read()
 pub fn a_marking_stays()
     ensures comes { MarkingStays }
     ensures path { PathKeepsMarking }
+{}
+
+/// No silly windows are sent (RFC 9293, 3.8.6.2.1). A new segment shorter than the MSS goes where all that is queued does, or is half of the peer's
+/// largest window at least, or what was kept back has waited for the override timeout. Nothing waits where all that is queued fits.
+pub fn no_silly_window_is_sent()
+    ensures none { NoneIsSilly }
+    ensures fitting { FittingGoes }
+    ensures overrule { OverruleWaits }
 {}
