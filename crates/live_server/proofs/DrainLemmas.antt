@@ -28,7 +28,8 @@ use Rattle.tcb_machine.specs.Output.{is_sending, output, outputs_ack, outputs_de
 use Rattle.tcb_machine.specs.declared.kinds.State.{State}
 use Rattle.tcb_machine.specs.declared.kinds.State.TheVariants.{CloseWait, Closing, Established, FinWait1, FinWait2, LastAck, Listen, SynReceived, TimeWait}
 use Rattle.echo_services.specs.Pumping.{may_offer}
-use Rattle.echo_services.specs.Serving.{followed}
+use Rattle.tcb_machine.specs.States.{is_listen}
+use Rattle.live_server.specs.Sending.{follows, is_worth, remnant, spared, spares}
 use Rattle.live_server.specs.Acts.{closed, emptied, judged, pruned, reached, reaches, ticked}
 use Rattle.live_server.specs.Addresses.{is_for_us, is_to_us}
 use Rattle.live_server.specs.Counting.{counting_judged, more}
@@ -42,7 +43,7 @@ use Rattle.live_server.specs.Serving.{ServerOf, addressed, admits, becomes, caus
 use Rattle.live_server.specs.Table.{all_reached, conn_at, place_of, tuple_eq}
 use Rattle.live_server.specs.Timing.{is_started, mark_of, retimed, timeout}
 use Rattle.live_server.specs.declared.timing.Mark.{Mark}
-use Rattle.tcb_machine.specs.Beside.{retiming}
+use Rattle.tcb_machine.specs.Beside.{retiming, showing}
 use Rattle.live_server.specs.declared.conn.Conn.{Conn}
 use Rattle.live_server.specs.declared.unreached.Reported.{Reported}
 use Rattle.live_server.specs.declared.unreached.Reported.TheVariants.{HalfOpen, Open, Stray}
@@ -308,24 +309,36 @@ output_state b =
     chosen_state (is_sending b.state) _ (outputs_ack count b) b
     (deadline_state (outputs_ack count (outputs_fin (outputs_text b))) ∙ ack_state count (outputs_fin (outputs_text b)) ∙ fin_state (outputs_text b) ∙ text_state b) (ack_state count b)
 
-closed_in : (state : State) (b : Block) → b.state ≡ state → may_offer (followed (λ x. x) (close_in state b).verdict).state ≡ false
-closed_in Established b e = ap may_offer (output_state (wants_fin FinWait1 b))
-closed_in CloseWait b e = ap may_offer (output_state (wants_fin LastAck b))
-closed_in Listen b e = ap may_offer e
-closed_in SynReceived b e = ap may_offer e
-closed_in FinWait1 b e = ap may_offer e
-closed_in FinWait2 b e = ap may_offer e
-closed_in Closing b e = ap may_offer e
-closed_in LastAck b e = ap may_offer e
-closed_in TimeWait b e = ap may_offer e
+spared_state : (largest : ℕ) (b : Block) → (spared largest b).state ≡ b.state
+unfolding spared showing
+spared_state largest b = chosen_state (is_listen b.state || is_worth largest b) b (showing (b.wnd - remnant b) b) b refl refl
+
+spares_state : (largest : ℕ) (b : Block) → (spares largest b).state ≡ b.state
+unfolding spares showing
+spares_state largest b =
+    let d = output (spared largest b) in
+    let is = output_state (spared largest b) ∙ spared_state largest b in
+    chosen_state (is_listen d.state) d (showing b.wnd d) b is is
+
+closed_in : (largest : ℕ) (state : State) (b : Block) → b.state ≡ state → may_offer (follows largest (λ x. x) (close_in state b).verdict).state ≡ false
+closed_in largest Established b e = ap may_offer (spares_state largest (wants_fin FinWait1 b))
+closed_in largest CloseWait b e = ap may_offer (spares_state largest (wants_fin LastAck b))
+closed_in largest Listen b e = ap may_offer e
+closed_in largest SynReceived b e = ap may_offer e
+closed_in largest FinWait1 b e = ap may_offer e
+closed_in largest FinWait2 b e = ap may_offer e
+closed_in largest Closing b e = ap may_offer e
+closed_in largest LastAck b e = ap may_offer e
+closed_in largest TimeWait b e = ap may_offer e
 
 retimed_state : (rto : ℕ) (m : Mark) (b : Block) → (retimed rto m b).state ≡ b.state
 unfolding retimed retiming
 retimed_state rto m b = chosen_state (is_started m b) (retiming rto b) b b refl refl
 
-closed_offers : (rto : ℕ) (b : Block) → may_offer (closed rto true b).state ≡ false
+closed_offers : (largest rto : ℕ) (b : Block) → may_offer (closed largest rto true b).state ≡ false
 unfolding closed tcp_call
-closed_offers rto b = ap may_offer (retimed_state rto (mark_of b) (followed (λ x. x) (close_in b.state b).verdict)) ∙ closed_in b.state b refl
+closed_offers largest rto b =
+    ap may_offer (retimed_state rto (mark_of b) (follows largest (λ x. x) (close_in b.state b).verdict)) ∙ closed_in largest b.state b refl
 
 pruned_state : (tight : Bool) (b : Block) → (pruned tight b).state ≡ b.state
 unfolding forgetting
@@ -335,8 +348,9 @@ pruned_state false b = refl
 ticked_offers : (tight : Bool) (now : ℕ) (c : Conn) → may_offer (emptied (ticked (record { tight = tight; draining = true }) now c)).tcb.state ≡ false
 unfolding emptied
 ticked_offers tight now c =
-    let rto = timeout (reached now c).timing in
-    ap may_offer (pruned_state tight (closed rto true (reaches now c.tcb))) ∙ closed_offers rto (reaches now c.tcb)
+    let r = reached now c in
+    let rto = timeout r.timing in
+    ap may_offer (pruned_state tight (closed r.sending.largest rto true r.tcb)) ∙ closed_offers r.sending.largest rto r.tcb
 
 offers_of : (tight : Bool) (now : ℕ) (o : Option Conn) (c : Conn) → option_map (λ (d : Conn). emptied (ticked (record { tight = tight; draining = true }) now d)) o ≡ Some c
     → may_offer c.tcb.state ≡ false

@@ -11,7 +11,7 @@ use Rattle.tcb_machine.specs.Beside.{showing}
 use Rattle.tcb_machine.specs.Output.{output, pieces, sendable}
 use Rattle.tcb_machine.specs.States.{is_listen}
 use Rattle.live_server.specs.Acts.{overruled}
-use Rattle.live_server.specs.Congestion.{flight}
+use Rattle.live_server.specs.Congestion.{flight, is_open}
 use Rattle.live_server.specs.declared.congestion.Congestion.{Congestion}
 use Rattle.live_server.specs.declared.sending.Sending.{Sending}
 use Rattle.live_server.specs.Promises.{FittingGoes, IsNoSilly, NoneIsSilly, OverruleWaits, new_texts}
@@ -132,15 +132,16 @@ fitting_goes largest b few = by (is_listen b.state) (nat_le (length (unsent b)) 
 
 pub overrule_waits : OverruleWaits
 unfolding overruled is_overdue
-overrule_waits now x s b waits = by s.since x.recovering (is_kept_back b) waits
+overrule_waits now x s b waits = by s.since (is_open b) x.recovering (is_kept_back b) waits
   where
-    at_all : (r k t : Bool) → t ≡ false → cond (not r && (k && t)) (output b) b ≡ b
-    at_all true k t e = refl
-    at_all false false t e = refl
-    at_all false true true e = absurd (false≢true (sym e))
-    at_all false true false e = refl
+    at_all : (o r k t : Bool) → t ≡ false → cond (o && (not r && (k && t))) (output b) b ≡ b
+    at_all false r k t e = refl
+    at_all true true k t e = refl
+    at_all true false false t e = refl
+    at_all true false true true e = absurd (false≢true (sym e))
+    at_all true false true false e = refl
 
-    by : (o : Option ℕ) (r k : Bool) → ((at : ℕ) → o ≡ Some at → now < at + override_timeout)
-        → cond (not r && (k && option_map_or (λ at. nat_le (at + override_timeout) now) o false)) (output b) b ≡ b
-    by None r k w = at_all r k false refl
-    by (Some at) r k w = at_all r k (nat_le (at + override_timeout) now) (exceeding (at + override_timeout) now (w at refl))
+    by : (s : Option ℕ) (o r k : Bool) → ((at : ℕ) → s ≡ Some at → now < at + override_timeout)
+        → cond (o && (not r && (k && option_map_or (λ at. nat_le (at + override_timeout) now) s false))) (output b) b ≡ b
+    by None o r k w = at_all o r k false refl
+    by (Some at) o r k w = at_all o r k (nat_le (at + override_timeout) now) (exceeding (at + override_timeout) now (w at refl))

@@ -23,22 +23,24 @@ use Rattle.tcb_machine.specs.declared.kinds.State.{State}
 use Rattle.tcb_machine.specs.declared.kinds.State.TheVariants.{CloseWait, Closing, Established, FinWait1, FinWait2, LastAck, Listen, SynReceived, TimeWait}
 use Rattle.tcb_machine.proofs.ValidLemmas.{Says as Moving, moves-valid, segment-says}
 use Rattle.echo_services.specs.Pumping.{IsPump, Pumps}
-use Rattle.echo_services.specs.Serving.{followed}
 use Rattle.echo_services.proofs.PumpsLemmas.{chargen-pumps, daytime-pumps, discard-pumps, echo-pumps}
 use Rattle.page_service.specs.Site.{site, site-sound}
 use Rattle.page_service.proofs.PumpsLemmas.{pump-pumps}
-use Rattle.live_server.specs.Acts.{after, allowed, bared, challenged, closed, gone_back, is_allowed, is_outside, is_over, is_waited_for, judged, pruned, reached, reaches, renewed, repaired, resent, taken}
+use Rattle.live_server.specs.Acts.{after, allowed, bared, challenged, closed, gone_back, is_allowed, is_outside, is_over, is_waited_for, judged, overruled, pruned, reached, reaches, renewed, repaired, resent, slowed, taken}
 use Rattle.live_server.specs.Congestion.{again_up_to, calls_again, eased, is_fresh, is_slow, resends, rested, seen, segments}
 use Rattle.live_server.specs.DaytimeText.{daytime_text}
 use Rattle.live_server.specs.Promises.{NewIsShort, SegmentKeepsShort, TimeKeepsShort}
+use Rattle.live_server.specs.Sending.{follows, is_overdue, is_worth, largest_with, remnant, spared, spares}
 use Rattle.live_server.specs.Services.{pump_of}
 use Rattle.live_server.specs.Serving.{limited}
 use Rattle.live_server.specs.Timing.{clocked, is_started, mark_of, retimed, timeout}
 use Rattle.live_server.specs.declared.timing.Mark.{Mark}
-use Rattle.tcb_machine.specs.Beside.{resending, retiming}
+use Rattle.tcb_machine.specs.Beside.{resending, retiming, showing}
 use Rattle.live_server.specs.declared.conn.Conn.{Conn}
 use Rattle.live_server.specs.declared.conn.Judged.{Judged}
 use Rattle.live_server.specs.declared.conn.Judged.TheVariants.{Challenged, Late, Taken, Unanswered}
+use Rattle.live_server.specs.declared.congestion.Congestion.{Congestion}
+use Rattle.live_server.specs.declared.sending.Sending.{Sending}
 use Rattle.live_server.specs.declared.service.LiveService.{LiveService}
 use Rattle.live_server.specs.declared.service.LiveService.TheVariants.{Chargen, Daytime, Discard, Echo, Web}
 
@@ -414,15 +416,41 @@ pumps_of (Daytime begun) = daytime-pumps (daytime_text begun)
 pumps_of (Chargen given) = chargen-pumps given
 pumps_of (Web phase pages) = pump-pumps (site pages) (site-sound pages) phase
 
+-- output, where something is kept back
+module _ (n : ℕ) where
+  spared_open : (largest : ℕ) (b : Block) → Open n b → Open n (spared largest b)
+  unfolding spared showing
+  spared_open largest b h = by (is_listen b.state || is_worth largest b)
+    where
+      by : (t : Bool) → Open n (cond t b (showing (b.wnd - remnant b) b))
+      by true = h
+      by false = record { agreed = h.agreed; sent = h.sent }
+
+  spares_short : (largest : ℕ) (b : Block) → Open n b → Short n (spares largest b)
+  unfolding spares showing
+  spares_short largest b h =
+      let d = output (spared largest b) in
+      let o = output_open n (spared largest b) (spared_open largest b h) in
+      short_cond n (is_listen d.state) d (showing b.wnd d) (short n d o) (short n (showing b.wnd d) (record { agreed = o.agreed; sent = o.sent }))
+
+  overruled_short : (now : ℕ) (x : Congestion) (s : Sending) (b : Block) → Short n b → Short n (overruled now x s b)
+  unfolding overruled
+  overruled_short now x s b h = by (is_listen b.state) (is_syn_received b.state) (not x.recovering && is_overdue now b s) refl
+    where
+      by : (l r t : Bool) → is_listen b.state ≡ l → Short n (cond (not (l || r) && t) (output b) b)
+      by true r t e = h
+      by false true t e = h
+      by false false false e = h
+      by false false true e = short n (output b) (output_open n b (while_open n b e h))
+
 module _ (n : ℕ) (some : 1 ≤ n) where
   pumped : (b c : Block) → Pumps b c → Open n b → Open n c
   pumped b c p h = record { agreed = omega (arith, p.mss, h.agreed); sent = subst (AreShort n) (sym p.replies) h.sent }
 
-  followed_short : (pump : Block → Block) → IsPump pump → (a : Block) (v : Verdict) → Moving a v → Says n v → Short n (followed pump v)
-  followed_short pump law a (over c) moving h = h
-  followed_short pump law a (go c) moving h =
-      short n (output (pump c)) (output_open n (pump c) (pumped c (pump c) (law c moving.opened (moves-valid a c moving)) h))
-  followed_short pump law a (on c) moving h = short n c h
+  follows_short : (largest : ℕ) (pump : Block → Block) → IsPump pump → (a : Block) (v : Verdict) → Moving a v → Says n v → Short n (follows largest pump v)
+  follows_short largest pump law a (over c) moving h = h
+  follows_short largest pump law a (go c) moving h = spares_short n largest (pump c) (pumped c (pump c) (law c moving.opened (moves-valid a c moving)) h)
+  follows_short largest pump law a (on c) moving h = short n c h
 
   renewed_short : (una field : ℕ) (b : Block) → Short n b → Short n (renewed una field b)
   unfolding renewed
@@ -479,8 +507,9 @@ module _ (n : ℕ) (some : 1 ≤ n) where
   unfolding taken
   taken_short now iss s text c says valid =
       let t = seen_by now s c in
-      let b = followed (pump_of c.service) (tcp_segment now iss t text c.tcb) in
-      let one = followed_short (pump_of c.service) (pumps_of c.service) (record c.tcb { clock = now }) (tcp_segment now iss t text c.tcb) (segment-says now iss t text c.tcb valid) says in
+      let largest = (largest_with s c.tcb c.sending).largest in
+      let b = follows largest (pump_of c.service) (tcp_segment now iss t text c.tcb) in
+      let one = follows_short largest (pump_of c.service) (pumps_of c.service) (record c.tcb { clock = now }) (tcp_segment now iss t text c.tcb) (segment-says now iss t text c.tcb valid) says in
       let again = calls_again s c.tcb (rested now (timeout c.timing) c.tcb c.congestion) in
       let m = mark_of c.tcb in
       let rto = timeout (clocked now again m b c.timing) in
@@ -566,26 +595,29 @@ pruned_short n false b h = h
 
 -- a block that closes
 module _ (n : ℕ) where
-  closed_in : (state : State) (b : Block) → b.state ≡ state → Short n b → Short n (followed (λ x. x) (close_in state b).verdict)
-  closed_in Established b e h = let was = while_open n b (ap is_listen e) h in short n _ (output_open n (wants_fin FinWait1 b) (record { agreed = was.agreed; sent = was.sent }))
-  closed_in CloseWait b e h = let was = while_open n b (ap is_listen e) h in short n _ (output_open n (wants_fin LastAck b) (record { agreed = was.agreed; sent = was.sent }))
-  closed_in Listen b e h = h
-  closed_in SynReceived b e h = h
-  closed_in FinWait1 b e h = h
-  closed_in FinWait2 b e h = h
-  closed_in Closing b e h = h
-  closed_in LastAck b e h = h
-  closed_in TimeWait b e h = h
+  closed_in : (largest : ℕ) (state : State) (b : Block) → b.state ≡ state → Short n b → Short n (follows largest (λ x. x) (close_in state b).verdict)
+  closed_in largest Established b e h = let was = while_open n b (ap is_listen e) h in spares_short n largest (wants_fin FinWait1 b) (record { agreed = was.agreed; sent = was.sent })
+  closed_in largest CloseWait b e h = let was = while_open n b (ap is_listen e) h in spares_short n largest (wants_fin LastAck b) (record { agreed = was.agreed; sent = was.sent })
+  closed_in largest Listen b e h = h
+  closed_in largest SynReceived b e h = h
+  closed_in largest FinWait1 b e h = h
+  closed_in largest FinWait2 b e h = h
+  closed_in largest Closing b e h = h
+  closed_in largest LastAck b e h = h
+  closed_in largest TimeWait b e h = h
 
-  closed_short : (some : 1 ≤ n) (rto : ℕ) (draining : Bool) (b : Block) → Short n b → Short n (closed rto draining b)
+  closed_short : (some : 1 ≤ n) (largest rto : ℕ) (draining : Bool) (b : Block) → Short n b → Short n (closed largest rto draining b)
   unfolding closed tcp_call
-  closed_short some rto true b h = retimed_short n some rto (mark_of b) (followed (λ x. x) (close_in b.state b).verdict) (closed_in b.state b refl h)
-  closed_short some rto false b h = h
+  closed_short some largest rto true b h =
+      retimed_short n some rto (mark_of b) (follows largest (λ x. x) (close_in b.state b).verdict) (closed_in largest b.state b refl h)
+  closed_short some largest rto false b h = h
 
 pub time_keeps_short : TimeKeepsShort
 time_keeps_short measures now c valid h =
     let n = max least_mss c.most in
     let r = reached now c in
-    let first = closed_short n (omega arith) (timeout r.timing) measures.draining (reaches now c.tcb) (reached_short n (omega arith) now c.tcb valid (record { agreed = h.agreed; sent = h.sent })) in
-    let one = pruned_short n measures.tight (closed (timeout r.timing) measures.draining r.tcb) first in
+    let came = reached_short n (omega arith) now c.tcb valid (record { agreed = h.agreed; sent = h.sent }) in
+    let all = overruled_short n now (slowed c.tcb.retransmissions (reaches now c.tcb) c.congestion) c.sending (reaches now c.tcb) came in
+    let first = closed_short n (omega arith) r.sending.largest (timeout r.timing) measures.draining r.tcb all in
+    let one = pruned_short n measures.tight (closed r.sending.largest (timeout r.timing) measures.draining r.tcb) first in
     record { sent = one.sent; agreed = one.agreed }

@@ -33,7 +33,7 @@ pruned_window false b = refl
 
 pub tick_keeps_order : TickKeepsOrder
 unfolding closed
-tick_keeps_order tight now c = (pruned_number tight (reaches now c.tcb), pruned_window tight (reaches now c.tcb))
+tick_keeps_order tight now c = (pruned_number tight (reached now c).tcb, pruned_window tight (reached now c).tcb)
 
 -- a block that holds nothing but text in order, and what it offered
 abbrev pub HoldsOrder : Block → Type 0
@@ -45,7 +45,9 @@ forgotten_order b = forgetting-order b ∙ ap (λ (n : ℕ). n + length b.out) (
 
 pub ticked_order : (draining : Bool) (now : ℕ) (c : Conn) → HoldsOrder (emptied (ticked (record { tight = true; draining = draining }) now c)).tcb
 unfolding emptied forgetting without_ahead
-ticked_order draining now c = forgotten_order (closed (timeout (reached now c).timing) draining (reaches now c.tcb))
+ticked_order draining now c =
+    let r = reached now c in
+    forgotten_order (closed r.sending.largest (timeout r.timing) draining r.tcb)
 
 -- ---- who is there behind a tick
 passed : (p : Conn → Bool) (o : Option Conn) (c : Conn) → option_filter p o ≡ Some c → o ≡ Some c

@@ -199,9 +199,10 @@ slowed before b x = if nat_lt before b.retransmissions && not (x.field == 0) the
 abbrev pub is_probing : Block → Congestion → Bool
 is_probing b x = is_open b && (x.field == 0)
 
--- what was kept back for a whole segment, and has waited long enough, goes (RFC 9293, 3.8.6.2.1, (4)), but in recovery, where cwnd may be less than the window
+-- what was kept back for a whole segment, and has waited long enough, goes (RFC 9293, 3.8.6.2.1, (4)), but not in recovery, where cwnd may be
+-- less than the window that was shown
 unfoldable pub overruled : ℕ → Congestion → Sending → Block → Block
-overruled now x s b = if not x.recovering && is_overdue now b s then output b else b
+overruled now x s b = if is_open b && (not x.recovering && is_overdue now b s) then output b else b
 
 abbrev pub reached : ℕ → Conn → Conn
 reached now c =

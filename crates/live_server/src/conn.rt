@@ -325,8 +325,8 @@ impl Conn {
         self.overrule(alloc, now)
     }
 
-    /// What was kept back for a whole segment, and has waited long enough, goes (RFC 9293, 3.8.6.2.1), but in recovery. After an error nothing more is
-    /// promised.
+    /// What was kept back for a whole segment, and has waited long enough, goes (RFC 9293, 3.8.6.2.1), but not in recovery. After an error nothing
+    /// more is promised.
     #[tactic(auto, unfolding(crate::specs::Acts::overruled))]
     fn overrule(&mut self, alloc: Global, now: u64) -> Result<(), AllocError>
         requires { now ≤ last_time }
@@ -337,7 +337,10 @@ impl Conn {
         }) }
     {
         let before = Mark::of(&self.tcb);
-        if !self.congestion.recovering && self.sending.is_overdue(&self.tcb, now) {
+        if is_open(&self.tcb)
+            && !self.congestion.recovering
+            && self.sending.is_overdue(&self.tcb, now)
+        {
             self.tcb.output(alloc)?;
         }
         self.congestion.note(&self.tcb, before, now, false);
