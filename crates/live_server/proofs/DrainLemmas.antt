@@ -1,5 +1,5 @@
 -- A server that drains: no connection opens, and each one closes.
-use Rattle.std.proofs.Common.{◌≡◌, ℕ, ◌==◌, nat_lt, ◌||◌, ◌&&◌, not, Bool, true, false, cond, List, [], ◌∷◌, length, Option, None, Some, bytes_eq, codes, refl, sym, ap, subst, ◌∙◌, arith, true≢false}
+use Rattle.std.proofs.Common.{◌-◌, ◌≡◌, ℕ, ◌==◌, nat_lt, ◌||◌, ◌&&◌, not, Bool, true, false, cond, List, [], ◌∷◌, length, Option, None, Some, bytes_eq, codes, refl, sym, ap, subst, ◌∙◌, arith, true≢false}
 use Rattle.std.specs.Map.{lookup}
 use Rattle.std.specs.Option.{option_map, option_map_or}
 use Rattle.std.proofs.lemmas.Option.{none-some, same_Some}
