@@ -1,5 +1,5 @@
 -- The retransmission timeout by what happened, and what is measured.
-use Rattle.std.proofs.Common.{◌≡◌, ℕ, ◌+◌, ◌-◌, ◌*◌, ◌^◌, ◌<◌, ◌≤◌, ◌⊎◌, inl, inr, min, max, nat_lt, ◌&&◌, ◌||◌, not, Bool, true, false, cond, List, [], ◌∷◌, ◌++◌, Option, None, Some, tt, refl, sym, ap, subst, ◌∙◌, arith, append_assoc, is_some}
+use Rattle.std.proofs.Common.{◌≡◌, ℕ, ◌+◌, ◌-◌, ◌*◌, ◌^◌, ◌≤◌, ◌⊎◌, inl, inr, min, nat_lt, ◌&&◌, ◌||◌, not, Bool, true, false, cond, List, [], ◌∷◌, ◌++◌, Option, None, Some, refl, sym, ap, subst, ◌∙◌, arith, append_assoc, is_some}
 use Rattle.std.specs.Option.{option_map_or}
 use Rattle.std.proofs.lemmas.Bool.Decides.{nat_tests}
 use Rattle.std.proofs.lemmas.Option.{none-some}
@@ -7,10 +7,10 @@ use Rattle.segment_codec.specs.declared.packet.Seg.{Seg}
 use Rattle.tcb_machine.specs.BlockState.{Block, snd_nxt}
 use Rattle.tcb_machine.specs.Challenges.{is_syn_received}
 use Rattle.tcb_machine.specs.States.{is_listen}
-use Rattle.live_server.specs.Acts.{after, allowed, bared, challenged, emptied, is_allowed, is_probing, judged, reached, reaches, repaired, taken, ticked}
+use Rattle.live_server.specs.Acts.{after, allowed, bared, challenged, emptied, is_allowed, is_probing, judged, reached, reaches, repaired, taken}
 use Rattle.live_server.specs.Promises.{Coming, came, segment, time}
 use Rattle.live_server.specs.RoundTrips.{Event, IsOfOnce, NothingAgain, SamplesAreOfOnce, TimeoutsFollow, allowed_of, behind, came_all, events, events_at, expires, expiries, expiry, goes_again, is_again, new_at, opening, opening_in, rto, sent_new, smoothed, taken_again, taken_events, taken_of, timed_events, trip, trips_in, was_slow}
-use Rattle.live_server.specs.Timing.{clocked, computed, ended, expired, is_reached, is_sending, mark_of, measured, measures, no_timing, opened, sampled, timeout, unsampled}
+use Rattle.live_server.specs.Timing.{clocked, computed, ended, expired, is_reached, is_sending, mark_of, measured, measures, opened, sampled, timeout, unsampled}
 use Rattle.live_server.specs.declared.conn.Conn.{Conn}
 use Rattle.live_server.specs.declared.conn.Judged.{Judged}
 use Rattle.live_server.specs.declared.conn.Judged.TheVariants.{Challenged, Late, Taken, Unanswered}

@@ -1,6 +1,6 @@
 -- The retransmission timeout by what happened to a connection (RFC 6298), whatever came to it, and what its round trips are of. Times are in
 -- microseconds.
-use Rattle.std.specs.Prelude.{◌≡◌, ℕ, ◌+◌, ◌-◌, ◌*◌, ◌^◌, nat_lt, min, ◌&&◌, ◌||◌, not, Bool, true, false, List, [], ◌∷◌, ◌++◌, Option, None, Some, if◌then◌else◌}
+use Rattle.std.specs.Prelude.{◌≡◌, ℕ, ◌+◌, ◌-◌, ◌*◌, ◌^◌, nat_lt, min, ◌&&◌, ◌||◌, not, Bool, false, List, [], ◌∷◌, ◌++◌, Option, None, Some, if◌then◌else◌}
 use Rattle.echo_services.specs.Serving.{segment as comes, serves}
 use Rattle.segment_codec.specs.declared.packet.Seg.{Seg}
 use Rattle.tcb_machine.specs.BlockState.{Block, snd_nxt}
