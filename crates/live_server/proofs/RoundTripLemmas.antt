@@ -1,16 +1,28 @@
 -- The retransmission timeout by what happened, and what is measured.
-use Rattle.std.proofs.Common.{◌≡◌, ℕ, ◌+◌, ◌-◌, ◌*◌, ◌^◌, ◌≤◌, ◌⊎◌, inl, inr, min, nat_lt, ◌&&◌, ◌||◌, not, Bool, true, false, cond, List, [], ◌∷◌, ◌++◌, Option, None, Some, refl, sym, ap, subst, ◌∙◌, arith, append_assoc, is_some}
+use Rattle.std.proofs.Common.{◌≡◌, ◌≢◌, ℕ, zero, suc, ◌+◌, ◌-◌, ◌*◌, ◌^◌, ◌≤◌, ◌⊎◌, inl, inr, min, max, nat_lt, ◌==◌, ◌&&◌, ◌||◌, not, Bool, true, false, cond, List, [], ◌∷◌, ◌++◌, Option, None, Some, refl, sym, ap, subst, ◌∙◌, arith, append_assoc, is_some, take, true≢false}
 use Rattle.std.specs.Option.{option_map_or}
 use Rattle.std.proofs.lemmas.Bool.Decides.{nat_tests}
 use Rattle.std.proofs.lemmas.Option.{none-some}
+use Rattle.echo_services.specs.Serving.{kept}
+use Rattle.segment_codec.specs.ControlBits.{ack, fin, psh}
+use Rattle.segment_codec.specs.declared.packet.Reply.{Reply}
 use Rattle.segment_codec.specs.declared.packet.Seg.{Seg}
-use Rattle.tcb_machine.specs.BlockState.{Block, snd_nxt}
+use Rattle.sq_base.specs.SerialOrder.{dist}
+use Rattle.tcb_machine.specs.Beside.{moved_to, resending, retiming}
+use Rattle.tcb_machine.specs.BlockState.{Block, in_flight, segment_of, sends, snd_end, snd_nxt, unsent}
 use Rattle.tcb_machine.specs.Challenges.{is_syn_received}
+use Rattle.tcb_machine.specs.Output.{sends_text}
 use Rattle.tcb_machine.specs.States.{is_listen}
-use Rattle.live_server.specs.Acts.{after, allowed, bared, challenged, emptied, is_allowed, is_probing, judged, reached, reaches, repaired, taken}
+use Rattle.tcb_machine.specs.TcpStep.{tcp_segment}
+use Rattle.tcb_machine.specs.Timers.{fires, retransmits, sends_again}
+use Rattle.tcb_machine.specs.declared.kinds.State.{State}
+use Rattle.tcb_machine.specs.declared.kinds.State.TheVariants.{Closing, CloseWait, Established, FinWait1, FinWait2, LastAck, Listen, SynReceived, TimeWait}
+use Rattle.live_server.specs.Acts.{after, allowed, bared, challenged, emptied, gone_back, is_allowed, is_probing, judged, reached, reaches, read_nxt, renewed, repaired, resent, taken}
+use Rattle.live_server.specs.Congestion.{again_up_to, eased, is_fresh, is_slow, noted, resends, rested, seen, segments}
+use Rattle.live_server.specs.Services.{after_pump}
 use Rattle.live_server.specs.Promises.{Coming, came, segment, time}
-use Rattle.live_server.specs.RoundTrips.{Event, IsOfOnce, NothingAgain, SamplesAreOfOnce, TimeoutsFollow, allowed_of, behind, came_all, events, events_at, expires, expiries, expiry, goes_again, is_again, new_at, opening, opening_in, rto, sent_new, smoothed, taken_again, taken_events, taken_of, timed_events, trip, trips_in, was_slow}
-use Rattle.live_server.specs.Timing.{clocked, computed, ended, expired, is_reached, is_sending, mark_of, measured, measures, opened, sampled, timeout, unsampled}
+use Rattle.live_server.specs.RoundTrips.{Event, IsOfOnce, NewIsMeasured, NothingAgain, SamplesAreOfOnce, TimeoutsFollow, TimerBacksOff, TimerFollows, allowed_of, behind, came_all, events, events_at, expires, expiries, expiry, goes_again, is_again, new_at, opening, opening_in, rto, sent_new, smoothed, taken_again, taken_events, taken_of, timed_events, trip, trips_in, was_slow}
+use Rattle.live_server.specs.Timing.{clocked, computed, ended, expired, is_reached, is_sending, is_started, mark_of, measured, measures, opened, retimed, sampled, timeout, unsampled}
 use Rattle.live_server.specs.declared.conn.Conn.{Conn}
 use Rattle.live_server.specs.declared.conn.Judged.{Judged}
 use Rattle.live_server.specs.declared.conn.Judged.TheVariants.{Challenged, Late, Taken, Unanswered}
@@ -282,3 +294,159 @@ samples_of_once xs c s new h = by (all_sample xs c s h)
     by : ((c.timing.sample ≡ Some s) × NothingAgain xs c) ⊎ IsOfOnce xs c s → IsOfOnce xs c s
     by (inl k) = absurd (none-some _ (sym (ap (λ (t : Timing). t.sample) new) ∙ k.0))
     by (inr k) = k
+
+-- one begins with what is new
+sampled_some : (now : ℕ) (m : Mark) (d : Block) (t : Timing) → is_sending m d ≡ true → (sampled now m d t).sample ≢ None
+unfolding sampled
+sampled_some now m d t new = by t.sample (is_sending m d) refl new
+  where
+    by : (o : Option Sample) (b : Bool) → t.sample ≡ o → b ≡ true
+        → (cond (is_some o || not b) t (record t { sample = Some (record { edge = snd_nxt d; at = now }) })).sample ≢ None
+    by (Some s) b e f = λ h. true≢false (ap is_some (sym e ∙ h))
+    by None true e f = λ h. true≢false (ap is_some h)
+    by None false e f = absurd (true≢false (sym f))
+
+clocked_some : (now : ℕ) (again : Bool) (m : Mark) (d : Block) (t : Timing) → is_listen d.state ≡ false → again ≡ false → is_sending m d ≡ true
+    → (clocked now again m d t).sample ≢ None
+unfolding clocked
+clocked_some now again m d t alive none new = by (is_listen d.state) again alive none
+  where
+    u : Timing
+    u = opened m d (ended now d t)
+
+    by : (l a : Bool) → l ≡ false → a ≡ false → (cond l t (cond a (unsampled u) (sampled now m d u))).sample ≢ None
+    by true a e f = absurd (true≢false e)
+    by false true e f = absurd (true≢false f)
+    by false false e f = sampled_some now m d u new
+
+pub new_measured : NewIsMeasured
+unfolding taken repaired
+new_measured now iss s text c alive none new = clocked_some now (goes_again now s c) (mark_of c.tcb) (behind now iss s text c) c.timing alive none new
+
+-- ---- the timer
+-- what is sent again moves no deadline
+again_deadline : (b : Block) → (sends_again b).retransmit_at ≡ b.retransmit_at
+unfolding sends_again sends_text
+again_deadline b = three (nat_lt 0 (in_flight b)) (b.fin_sent && not (b.una == snd_nxt b))
+    (segment_of (psh + ack) b.una (take (min b.agreed.mss (min (in_flight b) (max 1 b.wnd))) b.out) b)
+    (segment_of (fin + ack) (snd_end b) [] b) (sends_text (psh + ack) (take 1 (unsent b)) b) refl
+  where
+    three : (t u : Bool) (q r : Reply) (x : Block) → x.retransmit_at ≡ b.retransmit_at → (cond t (sends q b) (cond u (sends r b) x)).retransmit_at ≡ b.retransmit_at
+    three true u q r x h = refl
+    three false true q r x h = refl
+    three false false q r x h = h
+
+retransmits_deadline : (st : State) (b : Block) → (retransmits st b).retransmit_at ≡ b.retransmit_at
+retransmits_deadline Listen b = again_deadline b
+retransmits_deadline SynReceived b = refl
+retransmits_deadline Established b = again_deadline b
+retransmits_deadline FinWait1 b = again_deadline b
+retransmits_deadline FinWait2 b = again_deadline b
+retransmits_deadline CloseWait b = again_deadline b
+retransmits_deadline Closing b = again_deadline b
+retransmits_deadline LastAck b = again_deadline b
+retransmits_deadline TimeWait b = again_deadline b
+
+either_deadline : (z : Bool) (x y b : Block) → x.retransmit_at ≡ b.retransmit_at → y.retransmit_at ≡ b.retransmit_at → (cond z x y).retransmit_at ≡ b.retransmit_at
+either_deadline true x y b h k = h
+either_deadline false x y b h k = k
+
+resent_deadline : (again : Bool) (b : Block) → (resent again b).retransmit_at ≡ b.retransmit_at
+unfolding resent
+resent_deadline again b = either_deadline (again && (not (is_listen b.state) && not (b.una == snd_nxt b))) (retransmits b.state b) b b (retransmits_deadline b.state b) refl
+
+resends_deadline : (k from to : ℕ) (b : Block) → (resends k from to b).retransmit_at ≡ b.retransmit_at
+unfolding resending
+resends_deadline zero from to b = refl
+resends_deadline (suc k) from to b = resends_deadline k from to b
+
+back_deadline : (from to : ℕ) (b : Block) → (gone_back from to b).retransmit_at ≡ b.retransmit_at
+unfolding gone_back
+back_deadline from to b =
+    either_deadline (not (is_listen b.state) && nat_lt from to) (resends (segments (to - from) b) from to b) (resent (to == 0) b) b
+    (resends_deadline (segments (to - from) b) from to b) (resent_deadline (to == 0) b)
+
+repaired_deadline : (field : ℕ) (fresh again : Bool) (c : Conn) → (repaired field fresh again c).tcb.retransmit_at ≡ c.tcb.retransmit_at
+unfolding repaired
+repaired_deadline field fresh again c =
+    let x = c.congestion in
+    let to = again_up_to (field * 2 ^ c.tcb.agreed.snd_shift) c.tcb x in
+    either_deadline (fresh && is_slow x) (gone_back x.again to c.tcb) (resent again c.tcb) c.tcb (back_deadline x.again to c.tcb) (resent_deadline again c.tcb)
+
+renewed_deadline : (una field : ℕ) (b : Block) → (renewed una field b).retransmit_at ≡ b.retransmit_at
+unfolding renewed
+renewed_deadline una field b = either_deadline ((b.una == una) && not (field == 0)) b (record b { retransmissions = 0 }) b refl refl
+
+taken_deadline : (now iss : ℕ) (s : Seg) (text : List ℕ) (c : Conn) → (taken now iss s text c).tcb.retransmit_at
+    ≡ (retimed (timeout (taken now iss s text c).timing) (mark_of c.tcb) (behind now iss s text c)).retransmit_at
+unfolding taken repaired
+taken_deadline now iss s text c =
+    let x = eased s c.tcb (rested now (timeout c.timing) c.tcb c.congestion) in
+    let m = mark_of c.tcb in
+    let b = behind now iss s text c in
+    let again = goes_again now s c in
+    let t = clocked now again m b c.timing in
+    let d = renewed c.tcb.una s.wnd (retimed (timeout t) m b) in
+    repaired_deadline s.wnd (is_fresh s c.tcb) again (record c {
+      tcb = d;
+      service = kept after_pump c.service (tcp_segment now iss (seen s c.tcb x) text c.tcb);
+      congestion = noted now again m d x;
+      timing = t;
+      urgent = c.urgent - dist (read_nxt c.tcb) (read_nxt b);
+      heard = now;
+    }) ∙ renewed_deadline c.tcb.una s.wnd (retimed (timeout t) m b)
+
+-- the timer is started, is stopped, or runs on
+abbrev starts_by : Bool → Option ℕ → Option ℕ → Bool → Bool
+starts_by l o p same = not l && (is_some o && (not (is_some p) || not same))
+
+retimed_deadline : (r : ℕ) (b d : Block) → (retimed r (mark_of b) d).retransmit_at
+    ≡ cond (starts_by (is_listen d.state) d.retransmit_at b.retransmit_at (d.una == b.una)) (moved_to (d.clock + r) d.retransmit_at) d.retransmit_at
+unfolding retimed retiming is_started
+retimed_deadline r b d = by (starts_by (is_listen d.state) d.retransmit_at b.retransmit_at (d.una == b.una))
+  where
+    by : (z : Bool) → (cond z (record d { rto = r; retransmit_at = moved_to (d.clock + r) d.retransmit_at }) d).retransmit_at
+        ≡ cond z (moved_to (d.clock + r) d.retransmit_at) d.retransmit_at
+    by true = refl
+    by false = refl
+
+started_by : (l : Bool) (o p : Option ℕ) (same : Bool) (at : ℕ) → l ≡ false → is_some o ≡ true → (p ≡ None) ⊎ (same ≡ false)
+    → cond (starts_by l o p same) (moved_to at o) o ≡ Some at
+started_by true o p same at e f g = absurd (true≢false e)
+started_by false None p same at e f g = absurd (true≢false (sym f))
+started_by false (Some x) None same at e f g = refl
+started_by false (Some x) (Some y) false at e f g = refl
+started_by false (Some x) (Some y) true at e f (inl g) = absurd (true≢false (ap is_some g))
+started_by false (Some x) (Some y) true at e f (inr g) = absurd (true≢false g)
+
+stopped_by : (z : Bool) (o : Option ℕ) (at : ℕ) → o ≡ None → cond z (moved_to at o) o ≡ None
+stopped_by true o at e = ap (moved_to at) e
+stopped_by false o at e = e
+
+runs_by : (l : Bool) (o p : Option ℕ) (same : Bool) (at : ℕ) → p ≢ None → same ≡ true → cond (starts_by l o p same) (moved_to at o) o ≡ o
+runs_by l o None same at f g = absurd (f refl)
+runs_by l o (Some y) false at f g = absurd (true≢false (sym g))
+runs_by true o (Some y) true at f g = refl
+runs_by false None (Some y) true at f g = refl
+runs_by false (Some x) (Some y) true at f g = refl
+
+pub timer_follows : TimerFollows
+timer_follows now iss s text c = record {
+  started = λ h. is ∙ started_by (is_listen d.state) d.retransmit_at c.tcb.retransmit_at (d.una == c.tcb.una) (d.clock + r) h.alive h.runs h.new;
+  stopped = λ h. is ∙ stopped_by (starts_by (is_listen d.state) d.retransmit_at c.tcb.retransmit_at (d.una == c.tcb.una)) d.retransmit_at (d.clock + r) h;
+  runs = λ h k. is ∙ runs_by (is_listen d.state) d.retransmit_at c.tcb.retransmit_at (d.una == c.tcb.una) (d.clock + r) h k;
+}
+  where
+    d : Block
+    d = behind now iss s text c
+
+    r : ℕ
+    r = timeout (taken now iss s text c).timing
+
+    is : (taken now iss s text c).tcb.retransmit_at
+        ≡ cond (starts_by (is_listen d.state) d.retransmit_at c.tcb.retransmit_at (d.una == c.tcb.una)) (moved_to (d.clock + r) d.retransmit_at) d.retransmit_at
+    is = taken_deadline now iss s text c ∙ retimed_deadline r c.tcb d
+
+pub timer_backs_off : TimerBacksOff
+unfolding fires
+timer_backs_off at b = refl

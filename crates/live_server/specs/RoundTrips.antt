@@ -1,13 +1,14 @@
 -- The retransmission timeout by what happened to a connection (RFC 6298), whatever came to it, and what its round trips are of. Times are in
 -- microseconds.
-use Rattle.std.specs.Prelude.{◌≡◌, ℕ, ◌+◌, ◌-◌, ◌*◌, ◌^◌, nat_lt, min, ◌&&◌, ◌||◌, not, Bool, false, List, [], ◌∷◌, ◌++◌, Option, None, Some, if◌then◌else◌}
+use Rattle.std.specs.Prelude.{◌≡◌, ◌≢◌, ◌⊎◌, ℕ, ◌+◌, ◌-◌, ◌*◌, ◌^◌, nat_lt, min, ◌==◌, ◌&&◌, ◌||◌, not, is_some, Bool, true, false, List, [], ◌∷◌, ◌++◌, Option, None, Some, if◌then◌else◌}
 use Rattle.echo_services.specs.Serving.{segment as comes, serves}
 use Rattle.segment_codec.specs.declared.packet.Seg.{Seg}
 use Rattle.tcb_machine.specs.BlockState.{Block, snd_nxt}
 use Rattle.tcb_machine.specs.Challenges.{is_syn_received}
 use Rattle.tcb_machine.specs.Limits.{longest_timeout}
 use Rattle.tcb_machine.specs.States.{is_listen}
-use Rattle.live_server.specs.Acts.{bared, emptied, is_allowed, is_probing, judged, reached, reaches}
+use Rattle.tcb_machine.specs.Timers.{fires, retransmission}
+use Rattle.live_server.specs.Acts.{bared, emptied, is_allowed, is_probing, judged, reached, reaches, taken}
 use Rattle.live_server.specs.Congestion.{calls_again, eased, rested, seen}
 use Rattle.live_server.specs.Promises.{Coming, came, segment, time}
 use Rattle.live_server.specs.Services.{pump_of}
@@ -39,7 +40,7 @@ expiries (trip r ∷ es) = 0
 expiries (expiry n ∷ es) = expiries es + n
 expiries (opening ∷ es) = 0
 
--- whether it expired in the handshake, and no round trip was measured since (5.7)
+-- whether it expired in the handshake (5.7)
 abbrev pub was_slow : List Event → Bool
 was_slow [] = false
 was_slow (trip r ∷ es) = was_slow es
@@ -152,3 +153,30 @@ pub record IsOfOnce (xs : List Coming) (c : Conn) (s : Sample) : Type 0 where
 
 abbrev pub SamplesAreOfOnce : Type 0
 SamplesAreOfOnce = (xs : List Coming) (c : Conn) (s : Sample) → c.timing ≡ no_timing → (came_all xs c).timing.sample ≡ Some s → IsOfOnce xs c s
+
+-- and what is sent the first time is measured, unless something goes again, or another one is measured
+abbrev pub NewIsMeasured : Type 0
+NewIsMeasured = (now iss : ℕ) (s : Seg) (text : List ℕ) (c : Conn) → is_listen (behind now iss s text c).state ≡ false → goes_again now s c ≡ false
+    → is_sending (mark_of c.tcb) (behind now iss s text c) ≡ true → (taken now iss s text c).timing.sample ≢ None
+
+-- ---- the timer
+-- The timer runs behind a segment, and didn't before (5.1), or something new is acknowledged (5.3)
+pub record IsStartedAnew (b d : Block) : Type 0 where
+  pub alive : is_listen d.state ≡ false
+  pub runs : is_some d.retransmit_at ≡ true
+  pub new : (b.retransmit_at ≡ None) ⊎ ((d.una == b.una) ≡ false)
+
+-- Then it expires RTO behind the block's clock. It is stopped where the block stops it (5.2), and otherwise runs on
+pub record IsTimed (now iss : ℕ) (s : Seg) (text : List ℕ) (c : Conn) : Type 0 where
+  pub started : IsStartedAnew c.tcb (behind now iss s text c)
+      → (taken now iss s text c).tcb.retransmit_at ≡ Some ((behind now iss s text c).clock + timeout (taken now iss s text c).timing)
+  pub stopped : (behind now iss s text c).retransmit_at ≡ None → (taken now iss s text c).tcb.retransmit_at ≡ None
+  pub runs : c.tcb.retransmit_at ≢ None → ((behind now iss s text c).una == c.tcb.una) ≡ true
+      → (taken now iss s text c).tcb.retransmit_at ≡ (behind now iss s text c).retransmit_at
+
+abbrev pub TimerFollows : Type 0
+TimerFollows = (now iss : ℕ) (s : Seg) (text : List ℕ) (c : Conn) → IsTimed now iss s text c
+
+-- Where it expires it starts again, with RTO twice as long, and 60 s at most (5.5 and 5.6)
+abbrev pub TimerBacksOff : Type 0
+TimerBacksOff = (at : ℕ) (b : Block) → (fires (retransmission at) b).retransmit_at ≡ Some (at + min (2 * b.rto) longest_timeout)

@@ -13,7 +13,7 @@ ghost use Rattle.live_server.specs.Promises.{SilenceIsNarrow, SlowStartIsSlow, T
 ghost use Rattle.live_server.specs.Promises.{MarkingStays, PathKeepsMarking};
 ghost use Rattle.live_server.specs.Promises.{TickKeepsOrder, TightHoldsOrder, TimeKeepsShort, TimeoutIsWide};
 ghost use Rattle.live_server.specs.Promises.{SegmentRaisesNone, TimeRaisesNone, UnflaggedSaysNothing, UrgentAdvances};
-ghost use Rattle.live_server.specs.RoundTrips.{SamplesAreOfOnce, TimeoutsFollow};
+ghost use Rattle.live_server.specs.RoundTrips.{NewIsMeasured, SamplesAreOfOnce, TimeoutsFollow, TimerBacksOff, TimerFollows};
 
 /// Each connection stands once in the table, and there are no more than there are places.
 pub fn the_table_is_bounded()
@@ -201,7 +201,16 @@ pub fn timeouts_follow_round_trips()
     ensures { TimeoutsFollow }
 {}
 
-/// A round trip is measured of what was sent the first time, and only while nothing is sent again (RFC 6298, 3: Karn's algorithm).
+/// A round trip is measured of what was sent the first time, and only while nothing is sent again (RFC 6298, 3: Karn's algorithm). What is new
+/// is measured, where nothing is.
 pub fn no_round_trip_is_of_what_was_sent_twice()
-    ensures { SamplesAreOfOnce }
+    ensures once { SamplesAreOfOnce }
+    ensures new { NewIsMeasured }
+{}
+
+/// Where a segment starts the retransmission timer, it expires RTO later; so it does behind each time that it expired, with RTO twice as long
+/// (RFC 6298, 5).
+pub fn the_timer_expires_a_timeout_later()
+    ensures segment { TimerFollows }
+    ensures expiry { TimerBacksOff }
 {}
