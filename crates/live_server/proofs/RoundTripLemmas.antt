@@ -1,6 +1,7 @@
 -- The retransmission timeout by what happened, and what is measured.
 use Rattle.std.proofs.Common.{◌≡◌, ◌≢◌, ℕ, zero, suc, ◌+◌, ◌-◌, ◌*◌, ◌^◌, ◌≤◌, ◌⊎◌, inl, inr, min, max, nat_lt, ◌==◌, ◌&&◌, ◌||◌, not, Bool, true, false, cond, List, [], ◌∷◌, ◌++◌, Option, None, Some, refl, sym, ap, subst, ◌∙◌, arith, append_assoc, is_some, take, true≢false}
 use Rattle.std.specs.Option.{option_map_or}
+use Rattle.std.proofs.Math.Nat.{mul_assoc, pow-succ'}
 use Rattle.std.proofs.lemmas.Bool.Decides.{nat_tests}
 use Rattle.std.proofs.lemmas.Option.{none-some}
 use Rattle.echo_services.specs.Serving.{kept}
@@ -21,7 +22,7 @@ use Rattle.live_server.specs.Acts.{after, allowed, bared, challenged, emptied, g
 use Rattle.live_server.specs.Congestion.{again_up_to, eased, is_fresh, is_slow, noted, resends, rested, seen, segments}
 use Rattle.live_server.specs.Services.{after_pump}
 use Rattle.live_server.specs.Promises.{Coming, came, segment, time}
-use Rattle.live_server.specs.RoundTrips.{Event, IsOfOnce, NewIsMeasured, NothingAgain, SamplesAreOfOnce, TimeoutsFollow, TimerBacksOff, TimerFollows, allowed_of, behind, came_all, events, events_at, expires, expiries, expiry, goes_again, is_again, new_at, opening, opening_in, rto, sent_new, smoothed, taken_again, taken_events, taken_of, timed_events, trip, trips_in, was_slow}
+use Rattle.live_server.specs.RoundTrips.{Event, IsOfOnce, NewIsMeasured, NothingAgain, RtoIsByTheRules, SamplesAreOfOnce, TimeoutsFollow, TimerBacksOff, TimerFollows, allowed_of, behind, came_all, events, events_at, expires, expiries, expiry, goes_again, is_again, new_at, opening, opening_in, rto, sent_new, smoothed, taken_again, taken_events, taken_of, timed_events, trip, trips_in, was_slow}
 use Rattle.live_server.specs.Timing.{clocked, computed, ended, expired, is_reached, is_sending, is_started, mark_of, measured, measures, opened, retimed, sampled, timeout, unsampled}
 use Rattle.live_server.specs.declared.conn.Conn.{Conn}
 use Rattle.live_server.specs.declared.conn.Judged.{Judged}
@@ -177,6 +178,26 @@ pub timeouts_follow : TimeoutsFollow
 timeouts_follow xs c new =
     rto_follows (events xs c []) (came_all xs c).timing
     (all_follow xs c [] (subst (λ (t : Timing). Follows [] t) (sym new) (record { trip = refl; slow = refl; timeouts = refl })))
+
+capped : (n : ℕ) → min 60000000 (2 ^ 0 * min 60000000 (max 1000000 n)) ≡ min 60000000 (max 1000000 n)
+capped n = omega arith
+
+doubled_once : (k n : ℕ) → min 60000000 (2 ^ (k + 1) * n) ≡ min 60000000 (2 * min 60000000 (2 ^ k * n))
+doubled_once k n =
+    let next : k + 1 ≡ suc k = omega arith in
+    let power : 2 ^ (k + 1) ≡ 2 * 2 ^ k = ap (λ (m : ℕ). 2 ^ m) next ∙ pow-succ' 2 k in
+    let whole : 2 ^ (k + 1) * n ≡ 2 * (2 ^ k * n) = ap (λ (m : ℕ). m * n) power ∙ mul_assoc 2 (2 ^ k) n in
+    ap (λ (m : ℕ). min 60000000 m) whole ∙ twice (2 ^ k * n)
+  where
+    twice : (m : ℕ) → min 60000000 (2 * m) ≡ min 60000000 (2 * min 60000000 m)
+    twice m = omega arith
+
+pub rto_by_rules : RtoIsByTheRules
+rto_by_rules es r = record {
+  first = refl;
+  behind_trip = λ p e. ap (λ (q : Trip). min 60000000 (2 ^ 0 * computed (was_slow es) (Some q))) e ∙ capped (p.srtt + max 20000 (4 * p.rttvar));
+  behind_expiry = doubled_once (expiries es) (computed (was_slow es) (smoothed es));
+}
 
 -- ---- what is measured
 expired_sample : (before : ℕ) (probes : Bool) (d : Block) (t : Timing) (s : Sample) → (expired before probes d t).sample ≡ Some s

@@ -1,18 +1,18 @@
 -- The retransmission timeout by what happened to a connection (RFC 6298), whatever came to it, and what its round trips are of. Times are in
 -- microseconds.
-use Rattle.std.specs.Prelude.{◌≡◌, ◌≢◌, ◌⊎◌, ℕ, ◌+◌, ◌-◌, ◌*◌, ◌^◌, nat_lt, min, ◌==◌, ◌&&◌, ◌||◌, not, is_some, Bool, true, false, List, [], ◌∷◌, ◌++◌, Option, None, Some, if◌then◌else◌}
+use Rattle.std.specs.Prelude.{◌≡◌, ◌≢◌, ◌⊎◌, ℕ, ◌+◌, ◌-◌, ◌*◌, ◌^◌, nat_lt, min, max, ◌==◌, ◌&&◌, ◌||◌, not, is_some, Bool, true, false, List, [], ◌∷◌, ◌++◌, Option, None, Some, if◌then◌else◌}
 use Rattle.echo_services.specs.Serving.{segment as comes, serves}
 use Rattle.segment_codec.specs.declared.packet.Seg.{Seg}
 use Rattle.tcb_machine.specs.BlockState.{Block, snd_nxt}
 use Rattle.tcb_machine.specs.Challenges.{is_syn_received}
-use Rattle.tcb_machine.specs.Limits.{longest_timeout}
+use Rattle.tcb_machine.specs.Limits.{longest_timeout, second}
 use Rattle.tcb_machine.specs.States.{is_listen}
 use Rattle.tcb_machine.specs.Timers.{fires, retransmission}
 use Rattle.live_server.specs.Acts.{bared, emptied, is_allowed, is_probing, judged, reached, reaches, taken}
 use Rattle.live_server.specs.Congestion.{calls_again, eased, rested, seen}
 use Rattle.live_server.specs.Promises.{Coming, came, segment, time}
 use Rattle.live_server.specs.Services.{pump_of}
-use Rattle.live_server.specs.Timing.{computed, is_reached, is_sending, mark_of, measured, no_timing, timeout}
+use Rattle.live_server.specs.Timing.{computed, granularity, is_reached, is_sending, least_timeout, mark_of, measured, no_timing, timeout}
 use Rattle.live_server.specs.declared.conn.Conn.{Conn}
 use Rattle.live_server.specs.declared.conn.Judged.{Judged}
 use Rattle.live_server.specs.declared.conn.Judged.TheVariants.{Challenged, Late, Taken, Unanswered}
@@ -50,6 +50,17 @@ was_slow (opening ∷ es) = nat_lt 0 (expiries es) || was_slow es
 -- RTO: what they give, doubled for each of those (5.5), and 60 s at most (2.5)
 abbrev pub rto : List Event → ℕ
 rto es = min longest_timeout (2 ^ expiries es * computed (was_slow es) (smoothed es))
+
+-- So it is a second at first (2.1), SRTT + max (G, 4 * RTTVAR) behind a round trip, a second at least and 60 s at most (2.2 to 2.5), and twice as long
+-- each time that the timer expires, up to 60 s (5.5)
+pub record IsByTheRules (es : List Event) (r : ℕ) : Type 0 where
+  pub first : rto [] ≡ second
+  pub behind_trip : (p : Trip) → measured r (smoothed es) ≡ p
+      → rto (trip r ∷ es) ≡ min longest_timeout (max least_timeout (p.srtt + max granularity (4 * p.rttvar)))
+  pub behind_expiry : rto (expiry 1 ∷ es) ≡ min longest_timeout (2 * rto es)
+
+abbrev pub RtoIsByTheRules : Type 0
+RtoIsByTheRules = (es : List Event) (r : ℕ) → IsByTheRules es r
 
 -- ---- what happens
 -- the segment that a connection takes, with its text, where it takes one: what came, or its acknowledgement alone

@@ -13,7 +13,7 @@ ghost use Rattle.live_server.specs.Promises.{SilenceIsNarrow, SlowStartIsSlow, T
 ghost use Rattle.live_server.specs.Promises.{MarkingStays, PathKeepsMarking};
 ghost use Rattle.live_server.specs.Promises.{TickKeepsOrder, TightHoldsOrder, TimeKeepsShort, TimeoutIsWide};
 ghost use Rattle.live_server.specs.Promises.{SegmentRaisesNone, TimeRaisesNone, UnflaggedSaysNothing, UrgentAdvances};
-ghost use Rattle.live_server.specs.RoundTrips.{NewIsMeasured, SamplesAreOfOnce, TimeoutsFollow, TimerBacksOff, TimerFollows};
+ghost use Rattle.live_server.specs.RoundTrips.{NewIsMeasured, RtoIsByTheRules, SamplesAreOfOnce, TimeoutsFollow, TimerBacksOff, TimerFollows};
 
 /// Each connection stands once in the table, and there are no more than there are places.
 pub fn the_table_is_bounded()
@@ -198,7 +198,8 @@ pub fn a_marking_stays()
 
 /// Whatever came to a connection, RTO is what its round trips give, doubled for each time that the timer expired since the last one (RFC 6298, 2 and 5).
 pub fn timeouts_follow_round_trips()
-    ensures { TimeoutsFollow }
+    ensures all { TimeoutsFollow }
+    ensures rules { RtoIsByTheRules }
 {}
 
 /// A round trip is measured of what was sent the first time, and only while nothing is sent again (RFC 6298, 3: Karn's algorithm). What is new
