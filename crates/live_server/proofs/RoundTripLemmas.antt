@@ -1,5 +1,5 @@
 -- The retransmission timeout by what happened, and what is measured.
-use Rattle.std.proofs.Common.{◌≡◌, ◌≢◌, ℕ, zero, suc, ◌+◌, ◌-◌, ◌*◌, ◌^◌, ◌≤◌, ◌⊎◌, inl, inr, min, max, nat_lt, ◌==◌, ◌&&◌, ◌||◌, not, Bool, true, false, cond, List, [], ◌∷◌, ◌++◌, Option, None, Some, refl, sym, ap, subst, ◌∙◌, arith, append_assoc, is_some, take, true≢false}
+use Rattle.std.proofs.Common.{◌≡◌, ◌≢◌, ℕ, zero, suc, ◌+◌, ◌-◌, ◌*◌, ◌^◌, ◌≤◌, ◌⊎◌, inl, inr, min, nat_le, max, nat_lt, ◌==◌, ◌&&◌, ◌||◌, not, Bool, true, false, cond, List, [], ◌∷◌, ◌++◌, Option, None, Some, refl, sym, ap, subst, ◌∙◌, arith, append_assoc, is_some, take, true≢false}
 use Rattle.std.specs.Option.{option_map_or}
 use Rattle.std.proofs.Math.Nat.{mul_assoc, pow-succ'}
 use Rattle.std.proofs.lemmas.Bool.Decides.{nat_tests}
@@ -10,7 +10,7 @@ use Rattle.segment_codec.specs.declared.packet.Reply.{Reply}
 use Rattle.segment_codec.specs.declared.packet.Seg.{Seg}
 use Rattle.sq_base.specs.SerialOrder.{dist}
 use Rattle.tcb_machine.specs.Beside.{moved_to, resending, retiming}
-use Rattle.tcb_machine.specs.BlockState.{Block, in_flight, segment_of, sends, snd_end, snd_nxt, unsent}
+use Rattle.tcb_machine.specs.BlockState.{Block, has, in_flight, segment_of, sends, snd_end, snd_nxt, unsent}
 use Rattle.tcb_machine.specs.Challenges.{is_syn_received}
 use Rattle.tcb_machine.specs.Output.{sends_text}
 use Rattle.tcb_machine.specs.States.{is_listen}
@@ -19,11 +19,12 @@ use Rattle.tcb_machine.specs.Timers.{fires, retransmits, sends_again}
 use Rattle.tcb_machine.specs.declared.kinds.State.{State}
 use Rattle.tcb_machine.specs.declared.kinds.State.TheVariants.{Closing, CloseWait, Established, FinWait1, FinWait2, LastAck, Listen, SynReceived, TimeWait}
 use Rattle.live_server.specs.Acts.{after, allowed, bared, challenged, emptied, gone_back, is_allowed, is_probing, judged, reached, reaches, read_nxt, renewed, repaired, resent, taken}
-use Rattle.live_server.specs.Congestion.{again_up_to, eased, is_fresh, is_slow, noted, resends, rested, seen, segments}
+use Rattle.live_server.specs.Congestion.{acknowledges, again_up_to, begins_recovery, begun, bounded, calls_again, eased, flight, grown, is_duplicate, is_fresh, is_slow, noted, reaches as is_all, recovers, reopens, repeated, resends, rested, seen, segments, slowly}
 use Rattle.live_server.specs.Services.{after_pump}
 use Rattle.live_server.specs.Promises.{Coming, came, segment, time}
-use Rattle.live_server.specs.RoundTrips.{Event, IsOfOnce, NewIsMeasured, NothingAgain, RtoIsByTheRules, SamplesAreOfOnce, TimeoutsFollow, TimerBacksOff, TimerFollows, allowed_of, behind, came_all, events, events_at, expires, expiries, expiry, goes_again, is_again, new_at, opening, opening_in, rto, sent_new, smoothed, taken_again, taken_events, taken_of, timed_events, trip, trips_in, was_slow}
+use Rattle.live_server.specs.RoundTrips.{Event, IsOfOnce, NewIsMeasured, NothingAgain, NothingMoreIsSent, RtoIsByTheRules, SamplesAreOfOnce, TimeoutsFollow, TimerBacksOff, TimerFollows, allowed_of, behind, came_all, events, events_at, expires, expiries, expiry, goes_again, is_again, new_at, opening, opening_in, rto, sent_new, smoothed, taken_again, taken_events, taken_of, timed_events, trip, trips_in, was_slow}
 use Rattle.live_server.specs.Timing.{clocked, computed, ended, expired, is_reached, is_sending, is_started, mark_of, measured, measures, opened, retimed, sampled, timeout, unsampled}
+use Rattle.live_server.specs.declared.congestion.Congestion.{Congestion}
 use Rattle.live_server.specs.declared.conn.Conn.{Conn}
 use Rattle.live_server.specs.declared.conn.Judged.{Judged}
 use Rattle.live_server.specs.declared.conn.Judged.TheVariants.{Challenged, Late, Taken, Unanswered}
@@ -398,24 +399,30 @@ renewed_deadline : (una field : ℕ) (b : Block) → (renewed una field b).retra
 unfolding renewed
 renewed_deadline una field b = either_deadline ((b.una == una) && not (field == 0)) b (record b { retransmissions = 0 }) b refl refl
 
-taken_deadline : (now iss : ℕ) (s : Seg) (text : List ℕ) (c : Conn) → (taken now iss s text c).tcb.retransmit_at
-    ≡ (retimed (timeout (taken now iss s text c).timing) (mark_of c.tcb) (behind now iss s text c)).retransmit_at
-unfolding taken repaired
-taken_deadline now iss s text c =
+-- before what goes again
+abbrev unmended : ℕ → ℕ → Seg → List ℕ → Conn → Conn
+unmended now iss s text c =
     let x = eased s c.tcb (rested now (timeout c.timing) c.tcb c.congestion) in
     let m = mark_of c.tcb in
     let b = behind now iss s text c in
     let again = goes_again now s c in
     let t = clocked now again m b c.timing in
     let d = renewed c.tcb.una s.wnd (retimed (timeout t) m b) in
-    repaired_deadline s.wnd (is_fresh s c.tcb) again (record c {
+    record c {
       tcb = d;
       service = kept after_pump c.service (tcp_segment now iss (seen s c.tcb x) text c.tcb);
       congestion = noted now again m d x;
       timing = t;
       urgent = c.urgent - dist (read_nxt c.tcb) (read_nxt b);
       heard = now;
-    }) ∙ renewed_deadline c.tcb.una s.wnd (retimed (timeout t) m b)
+    }
+
+taken_deadline : (now iss : ℕ) (s : Seg) (text : List ℕ) (c : Conn) → (taken now iss s text c).tcb.retransmit_at
+    ≡ (retimed (timeout (taken now iss s text c).timing) (mark_of c.tcb) (behind now iss s text c)).retransmit_at
+unfolding taken repaired
+taken_deadline now iss s text c =
+    repaired_deadline s.wnd (is_fresh s c.tcb) (goes_again now s c) (unmended now iss s text c)
+    ∙ renewed_deadline c.tcb.una s.wnd (retimed (timeout (unmended now iss s text c).timing) (mark_of c.tcb) (behind now iss s text c))
 
 -- the timer is started, is stopped, or runs on
 abbrev starts_by : Bool → Option ℕ → Option ℕ → Bool → Bool
@@ -471,3 +478,71 @@ timer_follows now iss s text c = record {
 pub timer_backs_off : TimerBacksOff
 unfolding fires
 timer_backs_off at b = refl
+
+-- ---- nothing goes again
+acknowledged_slow : (n : ℕ) (s : Seg) (b : Block) (x : Congestion) → (x.recovering && not (is_all s.ack x)) ≡ false → is_slow (acknowledges n s b x) ≡ false
+unfolding slowly recovers grown
+acknowledged_slow n s b x h = by x.recovering x.slow (is_all s.ack x) refl refl h
+  where
+    by : (r l a : Bool) → x.recovering ≡ r → is_all s.ack x ≡ a → (r && not a) ≡ false → is_slow (cond r (cond l (slowly n s b x) (recovers n s b x)) (grown n b x)) ≡ false
+    by false l a e f h = ap (λ (v : Bool). v && x.slow) e
+    by true l false e f h = absurd (true≢false h)
+    by true true true e f h = ap (λ (v : Bool). not v && not v) f
+    by true false true e f h = ap (λ (v : Bool). is_slow (cond v (record x { window = x.threshold; duplicates = 0; recovering = false })
+        (record x { window = max (2 * b.agreed.mss) (bounded ((x.window - n) + cond (nat_le b.agreed.mss n) b.agreed.mss 0)) }))) f
+
+fresh_waits : (s : Seg) (b : Block) → is_syn_received b.state ≡ true → is_fresh s b ≡ false
+unfolding is_fresh
+fresh_waits s b g = by (has s.flags ack) (is_listen b.state) (is_syn_received b.state) g
+  where
+    by : (a l y : Bool) → y ≡ true → (a && (not (l || y) && (nat_lt 0 (dist b.una s.ack) && nat_le (dist b.una s.ack) (flight b)))) ≡ false
+    by false l y g = refl
+    by true true y g = refl
+    by true false true g = refl
+    by true false false g = absurd (true≢false (sym g))
+
+eased_slow : (s : Seg) (b : Block) (x : Congestion) → calls_again s b x ≡ false → (is_fresh s b && is_slow (eased s b x)) ≡ false
+unfolding calls_again eased
+eased_slow s b x h = by (is_fresh s b) (is_syn_received b.state) refl refl h
+  where
+    by : (f y : Bool) → is_fresh s b ≡ f → is_syn_received b.state ≡ y
+        → cond f (x.recovering && not (is_all s.ack x)) (reopens s b x || (is_duplicate s b x && begins_recovery b x)) ≡ false
+        → (f && is_slow (record (cond y (begun b x) (cond f (acknowledges (dist b.una s.ack) s b x) (cond (is_duplicate s b x) (repeated b x) x))) { field = s.wnd })) ≡ false
+    by false y e g h = refl
+    by true false e g h = acknowledged_slow (dist b.una s.ack) s b x h
+    by true true e g h = absurd (true≢false (sym e ∙ fresh_waits s b g))
+
+noted_slow : (now : ℕ) (again : Bool) (m : Mark) (d : Block) (x : Congestion) → is_slow (noted now again m d x) ≡ is_slow x
+unfolding noted
+noted_slow now again m d x = by (again || is_sending m d)
+  where
+    by : (z : Bool) → is_slow (cond z (record x { sent = now }) x) ≡ is_slow x
+    by true = refl
+    by false = refl
+
+repaired_none : (field : ℕ) (fresh again : Bool) (c : Conn) → again ≡ false → (fresh && is_slow c.congestion) ≡ false → (repaired field fresh again c).tcb ≡ c.tcb
+unfolding repaired resent
+repaired_none field fresh again c e f =
+    let x = c.congestion in
+    let to = again_up_to (field * 2 ^ c.tcb.agreed.snd_shift) c.tcb x in
+    (λ j. cond (f j) (gone_back x.again to c.tcb) (resent (e j) c.tcb))
+
+same_replies : (rto una field : ℕ) (m : Mark) (b : Block) → (renewed una field (retimed rto m b)).replies ≡ b.replies
+unfolding renewed retimed retiming
+same_replies rto una field m b = by ((retimed rto m b).una == una && not (field == 0)) (is_started m b)
+  where
+    by : (y z : Bool) → (cond y (cond z (retiming rto b) b) (record (cond z (retiming rto b) b) { retransmissions = 0 })).replies ≡ b.replies
+    by true true = refl
+    by true false = refl
+    by false true = refl
+    by false false = refl
+
+pub nothing_more : NothingMoreIsSent
+unfolding taken
+nothing_more now iss s text c none =
+    let u = unmended now iss s text c in
+    let r = rested now (timeout c.timing) c.tcb c.congestion in
+    let slow : is_slow u.congestion ≡ is_slow (eased s c.tcb r) = noted_slow now (goes_again now s c) (mark_of c.tcb) u.tcb (eased s c.tcb r) in
+    ap (λ (b : Block). b.replies) (repaired_none s.wnd (is_fresh s c.tcb) (goes_again now s c) u none
+    (ap (λ (v : Bool). is_fresh s c.tcb && v) slow ∙ eased_slow s c.tcb r none))
+    ∙ same_replies (timeout u.timing) c.tcb.una s.wnd (mark_of c.tcb) (behind now iss s text c)

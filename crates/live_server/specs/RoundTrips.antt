@@ -165,6 +165,11 @@ pub record IsOfOnce (xs : List Coming) (c : Conn) (s : Sample) : Type 0 where
 abbrev pub SamplesAreOfOnce : Type 0
 SamplesAreOfOnce = (xs : List Coming) (c : Conn) (s : Sample) → c.timing ≡ no_timing → (came_all xs c).timing.sample ≡ Some s → IsOfOnce xs c s
 
+-- where a segment calls for nothing again, no reply is sent beside those of the block
+abbrev pub NothingMoreIsSent : Type 0
+NothingMoreIsSent = (now iss : ℕ) (s : Seg) (text : List ℕ) (c : Conn) → goes_again now s c ≡ false
+    → (taken now iss s text c).tcb.replies ≡ (behind now iss s text c).replies
+
 -- and what is sent the first time is measured, unless something goes again, or another one is measured
 abbrev pub NewIsMeasured : Type 0
 NewIsMeasured = (now iss : ℕ) (s : Seg) (text : List ℕ) (c : Conn) → is_listen (behind now iss s text c).state ≡ false → goes_again now s c ≡ false

@@ -13,7 +13,7 @@ ghost use Rattle.live_server.specs.Promises.{SilenceIsNarrow, SlowStartIsSlow, T
 ghost use Rattle.live_server.specs.Promises.{MarkingStays, PathKeepsMarking};
 ghost use Rattle.live_server.specs.Promises.{TickKeepsOrder, TightHoldsOrder, TimeKeepsShort, TimeoutIsWide};
 ghost use Rattle.live_server.specs.Promises.{SegmentRaisesNone, TimeRaisesNone, UnflaggedSaysNothing, UrgentAdvances};
-ghost use Rattle.live_server.specs.RoundTrips.{NewIsMeasured, RtoIsByTheRules, SamplesAreOfOnce, TimeoutsFollow, TimerBacksOff, TimerFollows};
+ghost use Rattle.live_server.specs.RoundTrips.{NewIsMeasured, NothingMoreIsSent, RtoIsByTheRules, SamplesAreOfOnce, TimeoutsFollow, TimerBacksOff, TimerFollows};
 
 /// Each connection stands once in the table, and there are no more than there are places.
 pub fn the_table_is_bounded()
@@ -206,6 +206,7 @@ pub fn timeouts_follow_round_trips()
 /// is measured, where nothing is.
 pub fn no_round_trip_is_of_what_was_sent_twice()
     ensures once { SamplesAreOfOnce }
+    ensures nothing { NothingMoreIsSent }
     ensures new { NewIsMeasured }
 {}
 
