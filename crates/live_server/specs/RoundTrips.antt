@@ -75,7 +75,9 @@ taken_of Late s text c = None
 
 -- the block behind it, and whether something goes again at once
 abbrev pub behind : ℕ → ℕ → Seg → List ℕ → Conn → Block
-behind now iss s text c = serves (pump_of c.service) (comes now iss (seen s c.tcb (eased s c.tcb (rested now (timeout c.timing) c.tcb c.congestion))) text ∷ []) c.tcb
+behind now iss s text c =
+    let r = rested now (timeout c.timing) c.tcb c.congestion in
+    serves (pump_of c.service) (comes now iss (seen s c.tcb (eased s c.tcb r)) text ∷ []) c.tcb
 
 abbrev pub goes_again : ℕ → Seg → Conn → Bool
 goes_again now s c = calls_again s c.tcb (rested now (timeout c.timing) c.tcb c.congestion)
@@ -182,7 +184,7 @@ pub record IsStartedAnew (b d : Block) : Type 0 where
   pub runs : is_some d.retransmit_at ≡ true
   pub new : (b.retransmit_at ≡ None) ⊎ ((d.una == b.una) ≡ false)
 
--- Then it expires RTO behind the block's clock. It is stopped where the block stops it (5.2), and otherwise runs on
+-- Then it expires RTO behind the block's clock. Elsewhere its deadline is the block's own: stopped where the block stops it (5.2), or as it ran
 pub record IsTimed (now iss : ℕ) (s : Seg) (text : List ℕ) (c : Conn) : Type 0 where
   pub started : IsStartedAnew c.tcb (behind now iss s text c)
       → (taken now iss s text c).tcb.retransmit_at ≡ Some ((behind now iss s text c).clock + timeout (taken now iss s text c).timing)
